@@ -1,0 +1,2 @@
+mod Descending
+mod Growing

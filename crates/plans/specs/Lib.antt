@@ -1,0 +1,4 @@
+pub mod Building
+pub mod Descent
+pub mod Meaning
+pub mod Nodes

@@ -1,0 +1,28 @@
+ghost use mathlib.Core.Path.{_≡_};
+ghost use mathlib.Core.Bool.{true};
+ghost use Prim.Native.Nat.{ℕ, _<_, _≤_};
+ghost use lib.ListN.{getD, length};
+ghost use Rattle.basics.specs.Sets.{has};
+ghost use Rattle.plans.specs.Nodes.{no-node};
+use basics::node::NodeSet;
+
+// A node: how many bits its value has, and its parents.
+#[derive(Clone, Copy, Drop)]
+pub struct Node {
+    pub width: u8,
+    pub parents: NodeSet,
+}
+
+// At most 64 nodes, each 2 to 16 bits wide. Parents are lower than their child, so node 0 has none; every other node
+// has at least one.
+#[derive(Drop)]
+pub struct Plan {
+    pub(crate) count: u8,
+    pub(crate) nodes: [Node; 64],
+    ghost few: { count ≤ 64 },
+    ghost long: { length nodes ≡ 64 },
+    ghost wide: { (n : ℕ) → n < count → 2 ≤ getD nodes n no-node .width },
+    ghost slim: { (n : ℕ) → n < count → getD nodes n no-node .width ≤ 16 },
+    ghost lower: { (n p : ℕ) → ((n < count) × (has (getD nodes n no-node .parents .mask) p ≡ true)) → p < n },
+    ghost rooted: { (n : ℕ) → 0 < n → n < count → 0 < getD nodes n no-node .parents .mask },
+}
