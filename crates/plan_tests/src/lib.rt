@@ -1,0 +1,3 @@
+// Tests of the plan and of the graph search.
+#[cfg(test)]
+mod tests;
