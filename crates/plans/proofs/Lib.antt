@@ -1,2 +1,3 @@
 mod Descending
 mod Growing
+pub mod Starts

@@ -1,7 +1,7 @@
 -- Nodes of a plan.
 use mathlib.Core.Bool.{Bool}
-use mathlib.Core.List.{List}
-use Prim.Native.Nat.{ℕ}
+use mathlib.Core.List.{List, [], _∷_}
+use Prim.Native.Nat.{ℕ, zero, suc, _+_}
 use lib.ListN.{getD}
 use Rattle.basics.specs.Sets.{has}
 use Rattle.plans.specs.declared.plan.Node.{Node}
@@ -17,3 +17,9 @@ node-at nodes n = getD nodes n no-node
 -- p is a parent of n
 abbrev pub is-parent : List Node → ℕ → ℕ → Bool
 is-parent nodes p n = has (node-at nodes n .parents .mask) p
+
+-- the bits of all nodes below n together: where the field of node n starts in an image
+abbrev pub field-start : List Node → ℕ → ℕ
+field-start [] n = 0
+field-start (x ∷ xs) zero = 0
+field-start (x ∷ xs) (suc n) = x .width + field-start xs n

@@ -6,7 +6,7 @@ ghost use lib.ListN.{length};
 ghost use Rattle.basics.specs.Refusals.{answer-unless, leave-unless};
 ghost use Rattle.plans.specs.Building.{good-width, good-parents, node-refusal, with-node};
 ghost use Rattle.plans.specs.Meaning.{nodes-of};
-ghost use Rattle.plans.specs.Nodes.{node-at};
+ghost use Rattle.plans.specs.Nodes.{node-at, field-start};
 use crate::plan::Node;
 use crate::plan::Plan;
 use basics::list::all_below;
@@ -35,6 +35,7 @@ impl Plan {
     {
         Plan {
             count: 0,
+            starts: [0; 65],
             nodes: [Node {
                 width: 0,
                 parents: NodeSet { mask: 0 },
@@ -75,6 +76,17 @@ impl Plan {
         self.node(n).parents
     }
 
+    // The bit of an image at which the node's field starts: the widths of all lower nodes together.
+    pub fn start(&self, n: NodeNumber) -> u16
+        ensures { λ r. ⌜ r ≡ field-start (nodes-of (now (self .entry))) (n .0) ⌝ }
+    {
+        if n.0 < self.count {
+            self.starts[n.0 as usize]
+        } else {
+            self.starts[self.count as usize]
+        }
+    }
+
     fn refusal(&self, width: u8, parents: &[NodeNumber]) -> Option<Refusal>
         ensures { λ r. ⌜ r ≡ node-refusal (nodes-of (now (self .entry))) width (now (parents .entry)) ⌝ }
     {
@@ -100,6 +112,7 @@ impl Plan {
             width,
             parents: set_of(parents),
         };
+        self.starts[n as usize + 1] = self.starts[n as usize] + width as u16;
         self.count = n + 1;
         Ok(NodeNumber(n))
     }

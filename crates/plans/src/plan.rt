@@ -3,7 +3,7 @@ ghost use mathlib.Core.Bool.{true};
 ghost use Prim.Native.Nat.{ℕ, _<_, _≤_};
 ghost use lib.ListN.{getD, length};
 ghost use Rattle.basics.specs.Sets.{has};
-ghost use Rattle.plans.specs.Nodes.{no-node};
+ghost use Rattle.plans.specs.Nodes.{no-node, field-start};
 use basics::node::NodeSet;
 
 // A node: how many bits its value has, and its parents.
@@ -19,10 +19,14 @@ pub struct Node {
 pub struct Plan {
     pub(crate) count: u8,
     pub(crate) nodes: [Node; 64],
+    // Where each node's field starts in an image, and where the last one ends: kept, so that a read need not add up.
+    pub(crate) starts: [u16; 65],
     ghost few: { count ≤ 64 },
     ghost long: { length nodes ≡ 64 },
+    ghost ruled: { length starts ≡ 65 },
     ghost wide: { (n : ℕ) → n < count → 2 ≤ getD nodes n no-node .width },
     ghost slim: { (n : ℕ) → n < count → getD nodes n no-node .width ≤ 16 },
     ghost lower: { (n p : ℕ) → ((n < count) × (has (getD nodes n no-node .parents .mask) p ≡ true)) → p < n },
+    ghost laid: { (n : ℕ) → n ≤ count → getD starts n 0 ≡ field-start nodes n },
     ghost rooted: { (n : ℕ) → 0 < n → n < count → 0 < getD nodes n no-node .parents .mask },
 }

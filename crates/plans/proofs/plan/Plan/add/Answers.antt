@@ -1,7 +1,7 @@
 use mathlib.Core.Path.{_≡_, refl, sym, ap, _∙_, subst}
 use mathlib.Core.Bool.{true}
 use mathlib.Core.List.{List, [], _∷_, _++_}
-use Prim.Native.Nat.{ℕ, _≤_, _<_}
+use Prim.Native.Nat.{ℕ, _+_, _≤_, _<_}
 use native.Mathlib.Omega.{arith}
 use lib.ListN.{length, getD, set, length-set}
 use Rattle.std.proofs.shelf.Lists.{length-take-le, take-more-set}
@@ -13,6 +13,7 @@ use Rattle.basics.proofs.Listing.{set-below, set-some, all-below-more}
 use Rattle.plans.specs.declared.plan.Node.{Node}
 use Rattle.plans.specs.Building.{with-node}
 use Rattle.plans.specs.Meaning.{nodes-of}
+use Rattle.plans.proofs.Starts.{laid-more, start-short}
 use Rattle.plans.proofs.Growing.{each-more, Accepted, accepted}
 use Rattle.plans.proofs.plan.Plan.add.Needs as need
 
@@ -26,25 +27,39 @@ ghost-self c =
     let size : length (nodes-of p) ≡ count = length-take-le count (p .nodes) (omega arith) in
     let ok : Accepted count (c .args .width) ps = subst (λ n. Accepted n (c .args .width) ps) size told in
     let room : count < length (p .nodes) = omega arith in
-    let mask = c .set-of .ensures .mask in (
+    let mask = c .set-of .ensures .mask in
+    (
       omega arith,
       (
         length-set (p .nodes) count new ∙ p .long,
         (
-          each-more (λ n x. 2 ≤ x .width) (p .nodes) count new room (p .wide) (ok .wide),
+          length-set (p .starts) (count + 1) (getD (p .starts) count 0 + c .args .width) ∙ p .ruled,
           (
-            each-more (λ n x. x .width ≤ 16) (p .nodes) count new room (p .slim) (ok .slim),
+            each-more (λ n x. 2 ≤ x .width) (p .nodes) count new room (p .wide) (ok .wide),
             (
-              λ n q h. each-more (λ n x. (q : ℕ) → has (x .parents .mask) q ≡ true → q < n) (p .nodes) count new room (λ n l q h. p .lower n q (l, h)) (λ q h. set-below count ps q (ok .lower) (ap (λ m. has m q) (sym mask) ∙ h)) n (h .0) q (h .1),
+              each-more (λ n x. x .width ≤ 16) (p .nodes) count new room (p .slim) (ok .slim),
               (
-                λ n l h. each-more (λ n x. 0 < n → 0 < x .parents .mask) (p .nodes) count new room (λ n l z. p .rooted n z l) (λ z. subst (λ m. 0 < m) (sym mask) (set-some ps (all-below-more count 64 ps (omega arith) (ok .lower)) (ok .some z))) n h l,
-                tt,
+                λ n q h. each-more (λ n x. (q : ℕ) → has (x .parents .mask) q ≡ true → q < n) (p .nodes) count new room (λ n l q h. p .lower n q (l, h)) (λ q h. set-below count ps q (ok .lower) (ap (λ m. has m q) (sym mask) ∙ h)) n (h .0) q (h .1),
+                (
+                  laid-more (p .nodes) (p .starts) count new room (omega arith) (p .laid),
+                  (
+                    λ n l h. each-more (λ n x. 0 < n → 0 < x .parents .mask) (p .nodes) count new room (λ n l z. p .rooted n z l) (λ z. subst (λ m. 0 < m) (sym mask) (set-some ps (all-below-more count 64 ps (omega arith) (ok .lower)) (ok .some z))) n h l,
+                    tt,
+                  ),
+                ),
               ),
             ),
           ),
         ),
       ),
     )
+
+pub add-self : need.add-self
+add-self c =
+    let p = c .args .self .now in
+    let told = accepted (nodes-of p) (c .args .width) (c .args .parents .now) (sym (c .in-rest .ensures tt)) in
+    let size : length (nodes-of p) ≡ p .count = length-take-le (p .count) (p .nodes) (omega arith) in
+    omega (arith, p .laid (p .count) (omega arith), start-short (p .nodes) (p .count) (p .slim))
 
 pub returns : need.returns
 returns c =

@@ -1,0 +1,4 @@
+pub mod Meaning
+pub mod Store
+pub mod Table
+pub mod TableLaws
