@@ -3,11 +3,11 @@ use mathlib.Core.Path.{_≡_, refl, sym, _∙_, ap}
 use mathlib.Core.Logic.{_⊎_, inl, inr, _↔_}
 use mathlib.Core.Bool.{Bool, true, false, _&&_, _||_, not, cond}
 use Prim.Native.Nat.{ℕ, zero, suc, _+_, _-_, _*_, _/_, _%_, _^_, _≤_, _<_, min, max}
-use native.Mathlib.Nat.{div-one, zero-div, div-eq-of-lt, div-self, pow-suc}
+use native.Mathlib.Nat.{mul-assoc, div-one, zero-div, div-eq-of-lt, div-self, pow-suc}
 use native.Mathlib.Numerals.{one-add}
 use native.Mathlib.Omega.{arith}
-use lib.Bits.{bitAnd, bitOr, or-shr, and-shr, or-step, and-step, or-zero-l, and-zero-l}
-use lib.Dec.{eqb, ltb}
+use lib.Bits.{bitAnd, bitOr, and-mask, or-shr, and-shr, or-step, and-step, or-zero-l, and-zero-l}
+use lib.Dec.{eqb, leb, ltb}
 use lib.Pow.{pow-pos, pow-mono, pow-lt, pow-add, shl-shr, shr-shr}
 use lib.Count.{ones, ones-step, ones-le}
 use Rattle.std.proofs.shelf.Bits.{one-shl, or-disjoint}
@@ -179,3 +179,52 @@ meets-members a b = (
   λ (n, l, r). not-from-false _ (ne-eqb (bitAnd a b) 0 (λ z.
       both-ways (has 0 n) (has-none n) (ap (λ m. has m n) (sym z) ∙ has-and a b n ∙ and-from _ _ l r))),
 )
+
+-- bits of a shifted number, of its low bits, and of its complement
+pub has-shl : (m s p : ℕ) → has (m * 2 ^ s) p ≡ (leb s p && has m (p - s))
+has-shl m s p = elim (cases-lt p s) [
+  | inl l ↦
+      let j = s - p - 1 in
+      let e : 2 ^ s ≡ 2 ^ j * 2 * 2 ^ p = ap (λ x. 2 ^ x) (split j l) ∙ pow-add 2 (j + 1) p ∙ ap (λ x. x * 2 ^ p) (pow-add 2 j 1) in
+      let q : m * 2 ^ s / 2 ^ p ≡ m * (2 ^ j * 2) = ap (λ x. m * x / 2 ^ p) e ∙ ap (λ x. x / 2 ^ p) (sym (mul-assoc m (2 ^ j * 2) (2 ^ p))) ∙ shl-shr (m * (2 ^ j * 2)) p in
+      let even : m * (2 ^ j * 2) ≡ m * 2 ^ j * 2 = sym (mul-assoc m (2 ^ j) 2) in
+      let z : bit (m * 2 ^ s) p ≡ 0 = omega arith in
+      grind (arith, tells)
+  | inr g ↦
+      let e : 2 ^ p ≡ 2 ^ s * 2 ^ (p - s) = ap (λ x. 2 ^ x) (omega arith) ∙ pow-add 2 s (p - s) in
+      let q : m * 2 ^ s / 2 ^ p ≡ m / 2 ^ (p - s) = ap (λ x. m * 2 ^ s / x) (ap (λ x. 2 ^ x) (join g)) ∙ sym (shr-shr (m * 2 ^ s) s (p - s)) ∙ ap (λ x. x / 2 ^ (p - s)) (shl-shr m s) in
+      let z : bit (m * 2 ^ s) p ≡ bit m (p - s) = ap (λ x. x % 2) q in
+      grind (arith, tells)
+]
+  where
+    split : (j : ℕ) → p < s → s ≡ s - p - 1 + 1 + p
+    split j l = omega arith
+
+    join : s ≤ p → p ≡ s + (p - s)
+    join g = omega arith
+
+pub has-shr : (m s p : ℕ) → has (m / 2 ^ s) p ≡ has m (s + p)
+has-shr m s p = ap (λ x. eqb (x % 2) 1) (shr-shr m s p)
+
+pub has-clear : (w x p : ℕ) → x < 2 ^ w → has (2 ^ w - 1 - x) p ≡ (ltb p w && not (has x p))
+has-clear w x p h = elim (cases-lt p w) [
+  | inl l ↦ let c = clear-bit p w x l h in grind (arith, tells)
+  | inr past ↦
+      let z = has-past w (2 ^ w - 1 - x) p (omega (arith, pow-pos w)) past in
+      grind (arith, tells)
+]
+
+pub has-full : (t p : ℕ) → has (2 ^ t - 1) p ≡ ltb p t
+has-full t p =
+    let e = has-clear t 0 p (pow-pos t) in
+    let z = has-none p in
+    grind (arith, tells)
+
+pub has-mod : (m t p : ℕ) → has (m % 2 ^ t) p ≡ (ltb p t && has m p)
+has-mod m t p =
+    let e : has (m % 2 ^ t) p ≡ (has m p && has (2 ^ t - 1) p) = ap (λ x. has x p) (sym (and-mask m t)) ∙ has-and m (2 ^ t - 1) p in
+    let f = has-full t p in
+    grind (arith, tells)
+
+pub has-suc : (m n : ℕ) → has m (suc n) ≡ has (m / 2) n
+has-suc m n = ap (λ x. eqb x 1) (half-bit m n)

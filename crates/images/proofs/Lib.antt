@@ -1,0 +1,3 @@
+mod Complement
+mod Numbers
+mod Patches

@@ -1,0 +1,75 @@
+-- The fields of a plan's nodes in an image: in rising node number, each as wide as its node, without gaps.
+use mathlib.Core.Bool.{Bool, true, false, cond, _&&_}
+use mathlib.Core.List.{List, [], _∷_, _++_}
+use Prim.Native.Nat.{ℕ, zero, suc, _+_, _-_, _*_, _/_}
+use lib.Dec.{leb, ltb}
+use lib.IntN.{ℤ, pos}
+use lib.ListN.{length}
+use lib.Signed.{leZ}
+use Rattle.basics.specs.Sets.{has}
+use Rattle.plans.specs.declared.plan.Node.{Node}
+use Rattle.plans.specs.Nodes.{node-at, field-start}
+use Rattle.stores.specs.Store.{Store}
+use Rattle.images.specs.Image.{image-bit, number, bytes, signed, bits-of, lowest, highest}
+
+-- the bits that all fields take, and the bytes that hold them
+abbrev pub plan-bits : List Node → ℕ
+plan-bits nodes = field-start nodes (length nodes)
+
+abbrev pub plan-bytes : List Node → ℕ
+plan-bytes nodes = (plan-bits nodes + 7) / 8
+
+-- the value in the field of node n
+abbrev pub field-value : List Node → List ℕ → ℕ → ℤ
+field-value nodes image n =
+    signed (node-at nodes n .width) (number (image-bit image) (field-start nodes n) (node-at nodes n .width))
+
+-- the values in the first k fields
+abbrev pub unpacked : List Node → List ℕ → ℕ → List ℤ
+unpacked nodes image zero = []
+unpacked nodes image (suc k) = unpacked nodes image k ++ (field-value nodes image k ∷ [])
+
+-- the bits of the values, field after field; all further bits are 0
+abbrev pub packed-bit : List Node → List ℤ → ℕ → Bool
+packed-bit [] vs i = false
+packed-bit (x ∷ xs) [] i = false
+packed-bit (x ∷ xs) (v ∷ vs) i =
+    cond (ltb i (x .width)) (has (bits-of (x .width) v) (x .width - 1 - i)) (packed-bit xs vs (i - x .width))
+
+-- the bytes of the values' image
+abbrev pub packed : List Node → List ℤ → List ℕ
+packed nodes vs = bytes (packed-bit nodes vs) (plan-bytes nodes)
+
+-- the bytes that hold the fields, with the spare bits of the last one cleared
+abbrev pub spare-cleared : List Node → List ℕ → List ℕ
+spare-cleared nodes image = bytes (λ i. ltb i (plan-bits nodes) && image-bit image i) (plan-bytes nodes)
+
+-- v lies in the range of w bits
+abbrev pub fits : ℕ → ℤ → Bool
+fits w v = leZ (lowest w) v && leZ v (highest w)
+
+-- each value lies in the range of its node's field
+abbrev pub all-fit : List Node → List ℤ → Bool
+all-fit [] vs = true
+all-fit (x ∷ xs) [] = true
+all-fit (x ∷ xs) (v ∷ vs) = fits (x .width) v && all-fit xs vs
+
+-- how many leading fields lie wholly in this many bits
+abbrev pub leading : List Node → ℕ → ℕ
+leading [] room = 0
+leading (x ∷ xs) room = cond (leb (x .width) room) (suc (leading xs (room - x .width))) 0
+
+-- where there is a field, what it has, else 0
+abbrev pub or-nought : ℕ → (ℕ → ℤ) → ℕ → ℤ
+or-nought count f n = cond (ltb n count) (f n) (pos 0)
+
+-- an image as a store: the nodes whose fields lie wholly in it
+abbrev pub image-store : List Node → List ℕ → Store
+image-store nodes image =
+    let count = leading nodes (8 * length image) in
+    record {
+      count = count;
+      values = or-nought count (field-value nodes image);
+      low = or-nought count (λ n. lowest (node-at nodes n .width));
+      high = or-nought count (λ n. highest (node-at nodes n .width));
+    }

@@ -1,0 +1,3 @@
+// The packed image of a plan's values, as the lamps read it.
+mod bits;
+mod signs;
