@@ -13,10 +13,7 @@ use Rattle.std.proofs.shelf.Signed.{ints}
 use Rattle.std.proofs.shelf.Tests.{and-parts, leb-true, lt-ltb, le-ltb, ltb-true, ltb-false, cond-true, cond-false, cases-lt, and-from, le-leb, false≢true, both-ways}
 use Rattle.images.specs.Image.{signed, bits-of, lowest, highest}
 use Rattle.images.specs.Fields.{fits}
-
--- the top bit has half the weight of all
-double : (w : ℕ) → 2 ≤ w → 2 ^ w ≡ 2 * 2 ^ (w - 1)
-double w h = let e : w ≡ suc (w - 1) = omega arith in ap (λ n. 2 ^ n) e ∙ omega (arith, pow-suc 2 (w - 1))
+use Rattle.images.specs.ImageLaws.{double}
 
 pub negative-room : (w n : ℕ) → leZ (lowest w) (negsuc n) ≡ true → suc n ≤ 2 ^ (w - 1)
 negative-room w n h = grind (arith, ints)

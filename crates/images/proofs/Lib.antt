@@ -1,3 +1,4 @@
 mod Complement
 mod Numbers
 mod Patches
+mod Places

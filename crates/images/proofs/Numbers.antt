@@ -15,17 +15,10 @@ use Rattle.std.proofs.shelf.Ways.{tells}
 use Rattle.basics.specs.Sets.{has}
 use Rattle.basics.proofs.Masks.{has-past, has-ext, has-suc, has-shr, has-mod}
 use Rattle.images.specs.Image.{image-bit, number}
+use Rattle.images.specs.ImageLaws.{digit-small, number-lt}
 
 abbrev digit : Bool → ℕ
 digit b = cond b 1 0
-
-digit-small : (b : Bool) → digit b < 2
-digit-small true = omega arith
-digit-small false = omega arith
-
-pub number-lt : (row : ℕ → Bool) (at w : ℕ) → number row at w < 2 ^ w
-number-lt row at zero = omega arith
-number-lt row at (suc w) = omega (arith, number-lt row at w, pow-suc 2 w, digit-small (row (at + w)))
 
 -- a number of two parts
 pub number-split : (row : ℕ → Bool) (at v w : ℕ) → number row at (v + w) ≡ number row at v * 2 ^ w + number row (at + v) w

@@ -1,7 +1,8 @@
 -- The fields of a plan's nodes in an image: in rising node number, each as wide as its node, without gaps.
 use mathlib.Core.Bool.{Bool, true, false, cond, _&&_}
 use mathlib.Core.List.{List, [], _∷_, _++_}
-use Prim.Native.Nat.{ℕ, zero, suc, _+_, _-_, _*_, _/_}
+use mathlib.Core.Path.{_≡_}
+use Prim.Native.Nat.{ℕ, zero, suc, _+_, _-_, _*_, _/_, _<_, _≤_}
 use lib.Dec.{leb, ltb}
 use lib.IntN.{ℤ, pos}
 use lib.ListN.{length}
@@ -73,3 +74,14 @@ image-store nodes image =
       low = or-nought count (λ n. lowest (node-at nodes n .width));
       high = or-nought count (λ n. highest (node-at nodes n .width));
     }
+
+-- the field of node n, of `width` bits from bit `start` on, lies wholly in this many bits
+pub record Lies (nodes : List Node) (room n start width : ℕ) : Type 0 where
+  pub leads : ltb n (leading nodes room) ≡ true
+  pub node : n < length nodes
+  pub starts : start ≡ field-start nodes n
+  pub spans : width ≡ node-at nodes n .width
+  pub wide : 2 ≤ width
+  pub slim : width ≤ 16
+  pub near : start < 65536
+  pub inside : start + width ≤ room

@@ -1,3 +1,4 @@
 // The packed image of a plan's values, as the lamps read it.
 mod bits;
+pub mod packed;
 mod signs;
