@@ -52,10 +52,10 @@ pub signed-fits : (w u : ℕ) → 2 ≤ w → u < 2 ^ w → fits w (signed w u) 
 signed-fits w u h l = elim (cases-lt u (2 ^ (w - 1))) [
   | inl low ↦
       ap (fits w) (cond-true (ltb u (2 ^ (w - 1))) (pos u) _ (lt-ltb u (2 ^ (w - 1)) low))
-        ∙ and-from _ _ (ap (λ z. leZ z (pos u)) least) (le-leb u (2 ^ (w - 1) - 1) (omega arith))
+      ∙ and-from _ _ (ap (λ z. leZ z (pos u)) least) (le-leb u (2 ^ (w - 1) - 1) (omega arith))
   | inr high ↦
       ap (fits w) (cond-false (ltb u (2 ^ (w - 1))) (pos u) _ (le-ltb u (2 ^ (w - 1)) high) ∙ below-nought u (2 ^ w) l)
-        ∙ and-from _ _ (ap (λ z. leZ z (negsuc (2 ^ w - u - 1))) least ∙ le-leb (2 ^ w - u - 1) (2 ^ (w - 1) - 0 - 1) (omega (arith, double w h))) refl
+      ∙ and-from _ _ (ap (λ z. leZ z (negsuc (2 ^ w - u - 1))) least ∙ le-leb (2 ^ w - u - 1) (2 ^ (w - 1) - 0 - 1) (omega (arith, double w h))) refl
 ]
   where
     least : lowest w ≡ negsuc (2 ^ (w - 1) - 0 - 1)

@@ -1,4 +1,5 @@
 mod Complement
 mod Numbers
+mod Packing
 mod Patches
 mod Places

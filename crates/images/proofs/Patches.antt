@@ -49,18 +49,18 @@ patch-has byte shift take piece p b h l =
     let s = has-shl piece shift p in
     elim (cases-lt p shift) [
       | inl under ↦ elim (cases-lt p 8) [
-          | inl low ↦ grind (arith, tells)
-          | inr high ↦ grind (arith, tells)
-        ]
+        | inl low ↦ grind (arith, tells)
+        | inr high ↦ grind (arith, tells)
+      ]
       | inr over ↦ elim (cases-lt (p - shift) take) [
-          | inl inside ↦ grind (arith, tells)
-          | inr above ↦
-              let z = has-past take piece (p - shift) l above in
-              elim (cases-lt p 8) [
-                | inl low ↦ grind (arith, tells)
-                | inr high ↦ let y = has-past 8 byte p b high in grind (arith, tells)
-              ]
-        ]
+        | inl inside ↦ grind (arith, tells)
+        | inr above ↦
+            let z = has-past take piece (p - shift) l above in
+            elim (cases-lt p 8) [
+              | inl low ↦ grind (arith, tells)
+              | inr high ↦ let y = has-past 8 byte p b high in grind (arith, tells)
+            ]
+      ]
     ]
 
 -- one byte of an image is patched: the bits from `from` on are the next ones of u, and all others are as they were
@@ -78,22 +78,22 @@ write-step image from left take u byte room l fits patched i = elim (cases-eq (i
             let no : leb from i ≡ false = lt-leb from i before in
             grind (arith, tells)
         | inr after ↦ elim (cases-lt i (from + take)) [
-            | inl inside ↦
-                let a = read ∙ patched p in
-                let lo : leb s p ≡ true = le-leb s p (omega arith) in
-                let hi : ltb p (s + take) ≡ true = lt-ltb p (s + take) (omega arith) in
-                let q : p - s < take = omega arith in
-                let yes1 : leb from i ≡ true = le-leb from i after in
-                let yes2 : ltb i (from + take) ≡ true = lt-ltb i (from + take) inside in
-                let place : left - take + (p - s) ≡ left - 1 - (i - from) = omega arith in
-                let piece : has (u / 2 ^ (left - take) % 2 ^ take) (p - s) ≡ has u (left - 1 - (i - from)) = has-mod (u / 2 ^ (left - take)) take (p - s) ∙ ap (λ b. b && has (u / 2 ^ (left - take)) (p - s)) (lt-ltb (p - s) take q) ∙ has-shr u (left - take) (p - s) ∙ ap (has u) place in
-                grind (arith, tells)
-            | inr past ↦
-                let a = read ∙ patched p in
-                let out : leb s p ≡ false = lt-leb s p (omega arith) in
-                let no : ltb i (from + take) ≡ false = le-ltb i (from + take) past in
-                grind (arith, tells)
-          ]
+          | inl inside ↦
+              let a = read ∙ patched p in
+              let lo : leb s p ≡ true = le-leb s p (omega arith) in
+              let hi : ltb p (s + take) ≡ true = lt-ltb p (s + take) (omega arith) in
+              let q : p - s < take = omega arith in
+              let yes1 : leb from i ≡ true = le-leb from i after in
+              let yes2 : ltb i (from + take) ≡ true = lt-ltb i (from + take) inside in
+              let place : left - take + (p - s) ≡ left - 1 - (i - from) = omega arith in
+              let piece : has (u / 2 ^ (left - take) % 2 ^ take) (p - s) ≡ has u (left - 1 - (i - from)) = has-mod (u / 2 ^ (left - take)) take (p - s) ∙ ap (λ b. b && has (u / 2 ^ (left - take)) (p - s)) (lt-ltb (p - s) take q) ∙ has-shr u (left - take) (p - s) ∙ ap (has u) place in
+              grind (arith, tells)
+          | inr past ↦
+              let a = read ∙ patched p in
+              let out : leb s p ≡ false = lt-leb s p (omega arith) in
+              let no : ltb i (from + take) ≡ false = le-ltb i (from + take) past in
+              grind (arith, tells)
+        ]
       ]
   | inr ne ↦
       let same : image-bit (set image (from / 8) byte) i ≡ image-bit image i = ap (λ b. has b (7 - i % 8)) (getD-set-other image (from / 8) (i / 8) byte 0 ne) in

@@ -57,6 +57,14 @@ start-rise nodes m (suc k) h =
     let e : m + suc k ≡ m + k + 1 = omega arith in
     subst (λ n. field-start nodes m ≤ field-start nodes n) (sym e) (omega (arith, start-rise nodes m k (omega arith), start-next nodes (m + k) (omega arith)))
 
+-- every field ends by the end of them all
+pub field-inside : (nodes : List Node) (n : ℕ) → n < length nodes → field-start nodes n + node-at nodes n .width ≤ field-start nodes (length nodes)
+field-inside nodes n h =
+    let e : n + 1 + (length nodes - (n + 1)) ≡ length nodes = omega arith in
+    let rise = start-rise nodes (n + 1) (length nodes - (n + 1)) (omega arith) in
+    let at : field-start nodes (n + 1 + (length nodes - (n + 1))) ≡ field-start nodes (length nodes) = ap (field-start nodes) e in
+    omega (arith, start-next nodes n h)
+
 -- a lower field ends before a higher one starts
 pub fields-apart : (nodes : List Node) (m n : ℕ) → m < n → n < length nodes → field-start nodes m + node-at nodes m .width ≤ field-start nodes n
 fields-apart nodes m n l h =
@@ -68,8 +76,8 @@ fields-apart nodes m n l h =
 -- a put into the field of node n changes the value of n alone
 pub put-field : (nodes : List Node) (image after : List ℕ) (n start width u : ℕ) (v : ℤ) → ((k : ℕ) → k < length nodes → 2 ≤ node-at nodes k .width) → Lies nodes (8 * length image) n start width → length after ≡ length image → u < 2 ^ width → signed width u ≡ v → ((i : ℕ) → image-bit after i ≡ with-field (image-bit image) start width u i) → image-store nodes after ≡ set-value (image-store nodes image) n v
 put-field nodes image after n start width u v wide lies long small back bits = same-store _ _ counts values
-  (λ k. ap (λ c. or-nought c (λ m. lowest (node-at nodes m .width)) k) counts)
-  (λ k. ap (λ c. or-nought c (λ m. highest (node-at nodes m .width)) k) counts)
+    (λ k. ap (λ c. or-nought c (λ m. lowest (node-at nodes m .width)) k) counts)
+    (λ k. ap (λ c. or-nought c (λ m. highest (node-at nodes m .width)) k) counts)
   where
     counts : leading nodes (8 * length after) ≡ leading nodes (8 * length image)
     counts = ap (λ l. leading nodes (8 * l)) long
@@ -81,12 +89,12 @@ put-field nodes image after n start width u v wide lies long small back bits = s
     here : field-value nodes after n ≡ v
     here =
         ap (λ w. signed w (number (image-bit after) (field-start nodes n) w)) (sym (lies .spans))
-          ∙ ap (λ s. signed width (number (image-bit after) s width)) (sym (lies .starts))
-          ∙ ap (signed width) (number-is (image-bit after) start width u small (λ j l.
-              bits (start + j)
-                ∙ cond-true (within-field start width (start + j)) (has u (width - 1 - (start + j - start))) (image-bit image (start + j)) (and-from _ _ (le-leb start (start + j) (omega arith)) (lt-ltb (start + j) (start + width) (omega arith)))
-                ∙ ap (λ p. has u (width - 1 - p)) (back-off j)))
-          ∙ back
+        ∙ ap (λ s. signed width (number (image-bit after) s width)) (sym (lies .starts))
+        ∙ ap (signed width) (number-is (image-bit after) start width u small (λ j l.
+        bits (start + j)
+        ∙ cond-true (within-field start width (start + j)) (has u (width - 1 - (start + j - start))) (image-bit image (start + j)) (and-from _ _ (le-leb start (start + j) (omega arith)) (lt-ltb (start + j) (start + width) (omega arith)))
+        ∙ ap (λ p. has u (width - 1 - p)) (back-off j)))
+        ∙ back
 
     -- the fields before and after it
     apart : (k j : ℕ) → k < length nodes → (k ≡ n → ⊥) → j < node-at nodes k .width → within-field start width (field-start nodes k + j) ≡ false
@@ -103,15 +111,15 @@ put-field nodes image after n start width u v wide lies long small back bits = s
     values k = ap (λ c. or-nought c (field-value nodes after) k) counts ∙ elim (cases-eq k n) [
       | inl q ↦
           cond-true (ltb k (leading nodes (8 * length image))) _ _ (ap (λ m. ltb m (leading nodes (8 * length image))) q ∙ lies .leads)
-            ∙ ap (field-value nodes after) q ∙ here ∙ sym (cond-true (eqb k n) v _ (eq-eqb k n q))
+          ∙ ap (field-value nodes after) q ∙ here ∙ sym (cond-true (eqb k n) v _ (eq-eqb k n q))
       | inr ne ↦ elim (cases-lt k (leading nodes (8 * length image))) [
-          | inl l ↦
-              ap (λ z. cond (ltb k (leading nodes (8 * length image))) z (pos 0)) (elsewhere k (omega (arith, leading-few nodes (8 * length image))) ne)
-                ∙ sym (cond-false (eqb k n) v _ (ne-eqb k n ne))
-          | inr past ↦
-              or-nought-past (leading nodes (8 * length image)) (field-value nodes after) k past
-                ∙ sym (cond-false (eqb k n) v _ (ne-eqb k n ne) ∙ or-nought-past (leading nodes (8 * length image)) (field-value nodes image) k past)
-        ]
+        | inl l ↦
+            ap (λ z. cond (ltb k (leading nodes (8 * length image))) z (pos 0)) (elsewhere k (omega (arith, leading-few nodes (8 * length image))) ne)
+            ∙ sym (cond-false (eqb k n) v _ (ne-eqb k n ne))
+        | inr past ↦
+            or-nought-past (leading nodes (8 * length image)) (field-value nodes after) k past
+            ∙ sym (cond-false (eqb k n) v _ (ne-eqb k n ne) ∙ or-nought-past (leading nodes (8 * length image)) (field-value nodes image) k past)
+      ]
     ]
 
 -- a value may be put where it fits the field
@@ -120,8 +128,8 @@ takes-field nodes image n start width v lies =
     let low : or-nought count (λ m. lowest (node-at nodes m .width)) n ≡ lowest width = cond-true (ltb n count) _ _ (lies .leads) ∙ ap lowest (sym (lies .spans)) in
     let high : or-nought count (λ m. highest (node-at nodes m .width)) n ≡ highest width = cond-true (ltb n count) _ _ (lies .leads) ∙ ap highest (sym (lies .spans)) in
     ap (λ b. b && (leZ (or-nought count (λ m. lowest (node-at nodes m .width)) n) v && leZ v (or-nought count (λ m. highest (node-at nodes m .width)) n))) (lies .leads)
-      ∙ ap (λ z. leZ z v && leZ v (or-nought count (λ m. highest (node-at nodes m .width)) n)) low
-      ∙ ap (λ z. leZ (lowest width) v && leZ v z) high
+    ∙ ap (λ z. leZ z v && leZ v (or-nought count (λ m. highest (node-at nodes m .width)) n)) low
+    ∙ ap (λ z. leZ (lowest width) v && leZ v z) high
   where
     count : ℕ
     count = leading nodes (8 * length image)

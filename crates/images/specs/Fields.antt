@@ -1,5 +1,5 @@
 -- The fields of a plan's nodes in an image: in rising node number, each as wide as its node, without gaps.
-use mathlib.Core.Bool.{Bool, true, false, cond, _&&_}
+use mathlib.Core.Bool.{Bool, true, false, cond, _&&_, _||_}
 use mathlib.Core.List.{List, [], _∷_, _++_}
 use mathlib.Core.Path.{_≡_}
 use Prim.Native.Nat.{ℕ, zero, suc, _+_, _-_, _*_, _/_, _<_, _≤_}
@@ -7,6 +7,10 @@ use lib.Dec.{leb, ltb}
 use lib.IntN.{ℤ, pos}
 use lib.ListN.{length}
 use lib.Signed.{leZ}
+use Rattle.std.specs.declared.option.Option.{Option}
+use Rattle.std.specs.declared.option.Option.the-variants.{Some, None}
+use Rattle.basics.specs.declared.refusal.Refusal.{Refusal}
+use Rattle.basics.specs.declared.refusal.Refusal.the-variants.{ShortBuffer, OutOfRange}
 use Rattle.basics.specs.Sets.{has}
 use Rattle.plans.specs.declared.plan.Node.{Node}
 use Rattle.plans.specs.Nodes.{node-at, field-start}
@@ -85,3 +89,14 @@ pub record Lies (nodes : List Node) (room n start width : ℕ) : Type 0 where
   pub slim : width ≤ 16
   pub near : start < 65536
   pub inside : start + width ≤ room
+
+-- why buffers of these lengths are refused: too few values, or too few bytes
+abbrev pub short-refusal : List Node → ℕ → ℕ → Option Refusal
+short-refusal nodes values image =
+    cond (ltb values (length nodes) || ltb image (plan-bytes nodes)) (Some ShortBuffer) None
+
+-- why packing is refused, in the order of looking
+abbrev pub pack-refusal : List Node → List ℤ → ℕ → Option Refusal
+pack-refusal nodes values image =
+    cond (ltb (length values) (length nodes) || ltb image (plan-bytes nodes)) (Some ShortBuffer)
+    (cond (all-fit nodes values) None (Some OutOfRange))

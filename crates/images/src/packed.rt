@@ -63,7 +63,11 @@ impl PackedStore<'_, '_> {
         }
         let start = self.plan.start(n) as usize;
         let width = self.plan.width(n);
-        if (start + width as usize + 7) / 8 <= self.image.len() { Some(Field { start, width }) } else { None }
+        if (start + width as usize + 7) / 8 <= self.image.len() {
+            Some(Field { start, width })
+        } else {
+            None
+        }
     }
 }
 
@@ -112,7 +116,12 @@ pub impl NodeStore for PackedStore<'_, '_> as PackedNodeStore {
         if !fits_width(f.width, v) {
             return false;
         }
-        write_bits(self.image, f.start, f.width as u32, twos_complement(f.width, v));
+        write_bits(
+            self.image,
+            f.start,
+            f.width as u32,
+            twos_complement(f.width, v),
+        );
         true
     }
 }

@@ -32,7 +32,11 @@ pub(crate) fn sign_extended(width: u8, bits: u32) -> i32
     requires { ⌜ 2 ≤ width ⌝ ∗ ⌜ width ≤ 16 ⌝ ∗ ⌜ bits < 2 ^ width ⌝ }
     ensures { λ r. ⌜ r ≡ signed width bits ⌝ }
 {
-    if bits < 1 << (width - 1) { bits as i32 } else { bits as i32 - (1 << width) }
+    if bits < 1 << (width - 1) {
+        bits as i32
+    } else {
+        bits as i32 - (1 << width)
+    }
 }
 
 pub(crate) fn twos_complement(width: u8, v: i32) -> u32
@@ -41,5 +45,9 @@ pub(crate) fn twos_complement(width: u8, v: i32) -> u32
     ensures bits { λ r. ⌜ r ≡ bits-of width v ⌝ }
     ensures back { λ r. ⌜ signed width r ≡ v ⌝ }
 {
-    if v >= 0 { v as u32 } else { (1 << width) - v.unsigned_abs() }
+    if v >= 0 {
+        v as u32
+    } else {
+        (1 << width) - v.unsigned_abs()
+    }
 }

@@ -24,10 +24,19 @@ fn refuses_what_it_must() -> Result<(), Fail> {
     check_eq(plan.add(17, &[]), Err(Refusal::LimitExceeded)).note("the width is looked at first")?;
     check_eq(plan.add(8, &[]), Err(Refusal::BadParents)).note("no parents")?;
     check_eq(plan.add(8, &[NodeNumber(1)]), Err(Refusal::BadParents)).note("its own parent")?;
-    check_eq(plan.add(8, &[NodeNumber(0), NodeNumber(200)]), Err(Refusal::BadParents)).note("a far parent")?;
+    check_eq(
+        plan.add(8, &[NodeNumber(0), NodeNumber(200)]),
+        Err(Refusal::BadParents),
+    ).note("a far parent")?;
     check_eq(plan.add(2, &[NodeNumber(0)]), Ok(NodeNumber(1)))?;
-    check_eq(plan.add(8, &[NodeNumber(0), NodeNumber(0)]), Err(Refusal::BadParents)).note("a parent twice")?;
-    check_eq(plan.add(8, &[NodeNumber(1), NodeNumber(0)]), Err(Refusal::BadParents)).note("falling parents")?;
+    check_eq(
+        plan.add(8, &[NodeNumber(0), NodeNumber(0)]),
+        Err(Refusal::BadParents),
+    ).note("a parent twice")?;
+    check_eq(
+        plan.add(8, &[NodeNumber(1), NodeNumber(0)]),
+        Err(Refusal::BadParents),
+    ).note("falling parents")?;
     check_eq(plan.count(), 2)?;
     check_eq(plan.width(NodeNumber(1)), 2)
 }
@@ -43,7 +52,10 @@ fn has_a_node_under_two_parents() -> Result<(), Fail> {
     check_eq(plan.parents(NodeNumber(3)), both)?;
     check_eq(plan.parents(NodeNumber(4)), NodeSet::empty())?;
     check_eq(plan.children(NodeNumber(0)), both)?;
-    check_eq(plan.below(NodeNumber(2)), NodeSet::empty().with(NodeNumber(2)).with(NodeNumber(3)))?;
+    check_eq(
+        plan.below(NodeNumber(2)),
+        NodeSet::empty().with(NodeNumber(2)).with(NodeNumber(3)),
+    )?;
     check_eq(plan.below(NodeNumber(4)), NodeSet::empty())
 }
 

@@ -13,6 +13,7 @@ use Rattle.std.specs.declared.option.Option.the-variants.{Some, None}
 use Rattle.std.proofs.shelf.Tests.{cases-bool, cases-eq, and-parts, leb-true, leb-false, eqb-false, or-cases, or-parts, not-true, not-false, eqb-true}
 use Rattle.basics.specs.declared.node.NodeNumber.{NodeNumber}
 use Rattle.basics.specs.declared.refusal.Refusal.the-variants.{LimitExceeded, BadParents}
+use Rattle.basics.proofs.Refusing.{none-applies, none-holds}
 use Rattle.basics.specs.Lists.{all-below, rising}
 use Rattle.plans.specs.declared.plan.Node.{Node}
 use Rattle.plans.specs.Building.{good-width, good-parents, node-refusal}
@@ -33,20 +34,12 @@ pub record Accepted (count width : ℕ) (parents : List NodeNumber) : Type 0 whe
   pub lower : all-below count parents ≡ true
   pub some : 0 < count → length parents ≡ 0 → ⊥
 
-none-applies : {A : Type 0} (b : Bool) (e : A) (rest : Option A) → cond b (Some e) rest ≡ None → (b ≡ false) × (rest ≡ None)
-none-applies true e rest h = let z : _≡_ {A = ℕ} 0 1 = cc in absurd (omega arith)
-none-applies false e rest h = (refl, h)
-
-holds : {A : Type 0} (b : Bool) (e : A) → cond b None (Some e) ≡ None → b ≡ true
-holds true e h = refl
-holds false e h = let z : _≡_ {A = ℕ} 0 1 = cc in absurd (omega arith)
-
 pub accepted : (nodes : List Node) (width : ℕ) (parents : List NodeNumber) → node-refusal nodes width parents ≡ None → Accepted (length nodes) width parents
 accepted nodes width parents e =
     let (limits, more) = none-applies (leb 64 (length nodes) || not (good-width width)) LimitExceeded _ e in
     let (full, narrow) = or-parts (leb 64 (length nodes)) (not (good-width width)) limits in
     let (low, high) = and-parts (leb 2 width) (leb width 16) (not-false (good-width width) narrow) in
-    let (up, below) = and-parts (rising parents) _ (holds (good-parents (length nodes) parents) BadParents more) in
+    let (up, below) = and-parts (rising parents) _ (none-holds (good-parents (length nodes) parents) BadParents more) in
     let (lower, root) = and-parts (all-below (length nodes) parents) _ below in
     record {
       room = leb-false 64 (length nodes) full;

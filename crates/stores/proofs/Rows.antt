@@ -34,13 +34,13 @@ each-row P rows i new l old here n = elim (cases-eq n i) [
 row-at : (count : ℕ) (rows : List Row) (i : ℕ) (new : Row) (n : ℕ) → i < count → i < length rows → getD (take count (set rows i new)) n no-row ≡ cond (eqb n i) new (getD (take count rows) n no-row)
 row-at count rows i new n l room = elim (cases-lt n count) [
   | inl below ↦ getD-take count (set rows i new) n no-row below ∙ elim (cases-eq n i) [
-      | inl q ↦ rw (q, getD-set-same) (sym (cond-true (eqb i i) new _ (eq-eqb i i refl)))
-      | inr ne ↦ rw getD-set-other (sym (cond-false (eqb n i) new _ (ne-eqb n i ne) ∙ getD-take count rows n no-row below))
-    ]
+    | inl q ↦ rw (q, getD-set-same) (sym (cond-true (eqb i i) new _ (eq-eqb i i refl)))
+    | inr ne ↦ rw getD-set-other (sym (cond-false (eqb n i) new _ (ne-eqb n i ne) ∙ getD-take count rows n no-row below))
+  ]
   | inr past ↦
       let ne : n ≢ i = omega arith in
       getD-past (take count (set rows i new)) n no-row (omega (arith, length-take count (set rows i new)))
-        ∙ sym (cond-false (eqb n i) new _ (ne-eqb n i ne) ∙ getD-past (take count rows) n no-row (omega (arith, length-take count rows)))
+      ∙ sym (cond-false (eqb n i) new _ (ne-eqb n i ne) ∙ getD-past (take count rows) n no-row (omega (arith, length-take count rows)))
 ]
 
 abbrev pub with-value : Row → ℤ → Row
@@ -49,10 +49,10 @@ with-value r v = record { value = v; low = r .low; high = r .high }
 -- a put changes one value of the store
 pub put-row : (count : ℕ) (rows : List Row) (i : ℕ) (v : ℤ) → i < count → i < length rows → rows-store (take count (set rows i (with-value (getD rows i no-row) v))) ≡ set-value (rows-store (take count rows)) i v
 put-row count rows i v l room = same-store _ _
-  (length-take count (set rows i new) ∙ rw length-set (sym (length-take count rows)))
-  (λ n. ap (λ r. r .value) (at n) ∙ by (λ r. r .value) n)
-  (λ n. ap (λ r. r .low) (at n) ∙ kept (λ r. r .low) refl n)
-  (λ n. ap (λ r. r .high) (at n) ∙ kept (λ r. r .high) refl n)
+    (length-take count (set rows i new) ∙ rw length-set (sym (length-take count rows)))
+    (λ n. ap (λ r. r .value) (at n) ∙ by (λ r. r .value) n)
+    (λ n. ap (λ r. r .low) (at n) ∙ kept (λ r. r .low) refl n)
+    (λ n. ap (λ r. r .high) (at n) ∙ kept (λ r. r .high) refl n)
   where
     new : Row
     new = with-value (getD rows i no-row) v

@@ -18,7 +18,14 @@ impl TableStore {
     pub fn new() -> TableStore
         ensures { λ r. ⌜ rows-of r ≡ [] ⌝ }
     {
-        TableStore { count: 0, rows: [Row { value: 0, low: 0, high: 0 }; 64] }
+        TableStore {
+            count: 0,
+            rows: [Row {
+                value: 0,
+                low: 0,
+                high: 0,
+            }; 64],
+        }
     }
 
     // Adds a node, and answers its number.
@@ -38,7 +45,15 @@ impl TableStore {
     fn row(&self, n: NodeNumber) -> Row
         ensures { λ r. ⌜ r ≡ getD (rows-of (now (self .entry))) (n .0) no-row ⌝ }
     {
-        if n.0 < self.count { self.rows[n.0 as usize] } else { Row { value: 0, low: 0, high: 0 } }
+        if n.0 < self.count {
+            self.rows[n.0 as usize]
+        } else {
+            Row {
+                value: 0,
+                low: 0,
+                high: 0,
+            }
+        }
     }
 
     // Whether v may be put at n.

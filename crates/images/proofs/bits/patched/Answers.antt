@@ -16,7 +16,7 @@ result-is : (c : need.After-ones) → bitOr (bitAnd (c .args .byte) (255 - c .on
 result-is c =
     let piece : c .args .piece * 2 ^ c .args .shift % 2 ^ 32 ≡ c .args .piece * 2 ^ c .args .shift = mod-eq-of-lt (omega (arith, piece-small (c .args .shift) (c .args .take) (c .args .piece) (c .pre .0) (c .pre .1))) in
     ap (λ m. bitOr (bitAnd (c .args .byte) (255 - m)) (c .args .piece * 2 ^ c .args .shift % 2 ^ 32)) (mask-is c)
-      ∙ ap (bitOr (bitAnd (c .args .byte) (255 - (2 ^ c .args .take - 1) * 2 ^ c .args .shift))) piece
+    ∙ ap (bitOr (bitAnd (c .args .byte) (255 - (2 ^ c .args .take - 1) * 2 ^ c .args .shift))) piece
 
 pub sub-result : need.sub-result
 sub-result c = omega (arith, mask-is c, mask-small (c .args .shift) (c .args .take) (c .pre .0))

@@ -14,8 +14,7 @@ appended-value-requires c κs =
     let image = c .args .image .now in
     let take = c .in-one-byte-take .result in
     let from = c .loop-left .from in
-    let piece : c .piece-of .result ≡ number (image-bit image) from take = c .piece-of .ensures ∙ byte-piece image from take (c .in-one-byte-take .ensures .fits) in
-    (
+    let piece : c .piece-of .result ≡ number (image-bit image) from take = c .piece-of .ensures ∙ byte-piece image from take (c .in-one-byte-take .ensures .fits) in (
       omega arith,
       (
         read-room (image-bit image) (c .args .at) (c .args .width) from (c .loop-left .left) take (c .loop-left .value) (c .pre .0) (c .in-one-byte-take .ensures .within) (c .loop-left .inv .2),
@@ -32,11 +31,10 @@ loop-left-again c =
     let take = c .in-one-byte-take .result in
     let from = c .loop-left .from in
     let left = c .loop-left .left in
-    let piece : c .piece-of .result ≡ number (image-bit image) from take = c .piece-of .ensures ∙ byte-piece image from take (c .in-one-byte-take .ensures .fits) in
-    (
+    let piece : c .piece-of .result ≡ number (image-bit image) from take = c .piece-of .ensures ∙ byte-piece image from take (c .in-one-byte-take .ensures .fits) in (
       omega (arith, c .loop-left .inv .0, c .in-one-byte-take .ensures .within),
       omega (arith, c .loop-left .inv .1),
       c .loop-left .inv .2
-        ∙ read-step (image-bit image) from left take (c .loop-left .value) (c .piece-of .result) (c .in-one-byte-take .ensures .within) piece
-        ∙ ap (λ v. v * 2 ^ (left - take) + number (image-bit image) (from + take) (left - take)) (sym (c .appended-value .ensures)),
+          ∙ read-step (image-bit image) from left take (c .loop-left .value) (c .piece-of .result) (c .in-one-byte-take .ensures .within) piece
+          ∙ ap (λ v. v * 2 ^ (left - take) + number (image-bit image) (from + take) (left - take)) (sym (c .appended-value .ensures)),
     )

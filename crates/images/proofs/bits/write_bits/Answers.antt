@@ -19,12 +19,11 @@ loop-left-again c =
     let width = c .args .width in
     let u = c .args .bits in
     let s = 8 - from % 8 - take in
-    let patched : (p : ℕ) → has (c .patched .result) p ≡ cond (leb s p && ltb p (s + take)) (has (u / 2 ^ (left - take) % 2 ^ take) (p - s)) (has (getD image (from / 8) 0) p) = λ p. c .patched .ensures p ∙ ap (λ m. cond (leb s p && ltb p (s + take)) (has m (p - s)) (has (getD image (from / 8) 0) p)) (c .piece-of-piece .ensures) in
-    (
+    let patched : (p : ℕ) → has (c .patched .result) p ≡ cond (leb s p && ltb p (s + take)) (has (u / 2 ^ (left - take) % 2 ^ take) (p - s)) (has (getD image (from / 8) 0) p) = λ p. c .patched .ensures p ∙ ap (λ m. cond (leb s p && ltb p (s + take)) (has m (p - s)) (has (getD image (from / 8) 0) p)) (c .piece-of-piece .ensures) in (
       omega (arith, c .loop-left .inv .0, c .in-one-byte-take .ensures .within),
       omega (arith, c .loop-left .inv .1),
       λ i. write-more (image-bit (c .args .image .now)) (image-bit image i) _ at width from left take u i (c .loop-left .inv .0) (c .loop-left .inv .1) (c .in-one-byte-take .ensures .within) (c .loop-left .inv .2 i)
-        (write-step image from left take u (c .patched .result) (omega (arith, c .loop-left .inv .0)) (c .in-one-byte-take .ensures .within) (c .in-one-byte-take .ensures .fits) patched i),
+          (write-step image from left take u (c .patched .result) (omega (arith, c .loop-left .inv .0)) (c .in-one-byte-take .ensures .within) (c .in-one-byte-take .ensures .fits) patched i),
     )
 
 pub returns : need.returns

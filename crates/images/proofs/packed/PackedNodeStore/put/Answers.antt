@@ -27,5 +27,5 @@ returns c =
     record {
       says = taken;
       leaves = put-field nodes image (c .write-bits .last .image) n (f .start) (f .width) (c .twos-complement .result) v (plan-wide (now (s .plan))) lies (c .write-bits .kept .image) (c .twos-complement .ensures .small) (c .twos-complement .ensures .back ∙ same) (c .write-bits .ensures)
-        ∙ sym (cond-true (may-put (image-store nodes image) n v) (set-value (image-store nodes image) n v) (image-store nodes image) (sym taken));
+          ∙ sym (cond-true (may-put (image-store nodes image) n v) (set-value (image-store nodes image) n v) (image-store nodes image) (sym taken));
     }

@@ -27,8 +27,7 @@ ghost-self c =
     let size : length (nodes-of p) ≡ count = length-take-le count (p .nodes) (omega arith) in
     let ok : Accepted count (c .args .width) ps = subst (λ n. Accepted n (c .args .width) ps) size told in
     let room : count < length (p .nodes) = omega arith in
-    let mask = c .set-of .ensures .mask in
-    (
+    let mask = c .set-of .ensures .mask in (
       omega arith,
       (
         length-set (p .nodes) count new ∙ p .long,

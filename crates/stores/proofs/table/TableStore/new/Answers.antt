@@ -9,7 +9,16 @@ use Rattle.stores.specs.TableLaws.{no-row-small}
 use Rattle.stores.proofs.table.TableStore.new.Needs as need
 
 pub ghost-result : need.ghost-result
-ghost-result c = (omega arith, (refl, (λ n. elim (cases-lt n 64) [
-  | inl l ↦ subst Small-row (sym (getD-replicate 64 n no-row no-row l)) no-row-small
-  | inr past ↦ subst Small-row (sym (getD-past (replicate 64 no-row) n no-row past)) no-row-small
-], tt)))
+ghost-result c = (
+  omega arith,
+  (
+    refl,
+    (
+      λ n. elim (cases-lt n 64) [
+        | inl l ↦ subst Small-row (sym (getD-replicate 64 n no-row no-row l)) no-row-small
+        | inr past ↦ subst Small-row (sym (getD-past (replicate 64 no-row) n no-row past)) no-row-small
+      ],
+      tt,
+    ),
+  ),
+)

@@ -52,6 +52,6 @@ returns c =
     record {
       says = e;
       leaves = ap (λ z. rows-store (take (t .count) (set (t .rows) n (with-value (getD (t .rows) n no-row) z)))) kept
-        ∙ put-row (t .count) (t .rows) n v (told .below) room
-        ∙ sym (cond-true (may-put (rows-store (rows-of t)) n v) (set-value (rows-store (rows-of t)) n v) (rows-store (rows-of t)) (sym e));
+          ∙ put-row (t .count) (t .rows) n v (told .below) room
+          ∙ sym (cond-true (may-put (rows-store (rows-of t)) n v) (set-value (rows-store (rows-of t)) n v) (rows-store (rows-of t)) (sym e));
     }
