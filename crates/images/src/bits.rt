@@ -5,7 +5,7 @@ ghost use Prim.Native.Nat.{ℕ, _+_, _-_, _*_, _/_, _%_, _^_, _<_, _≤_};
 ghost use lib.Dec.{leb, ltb};
 ghost use lib.ListN.{length};
 ghost use Rattle.basics.specs.Sets.{has};
-ghost use Rattle.images.specs.Image.{image-bit, number, with-field};
+ghost use Rattle.image_model.specs.Image.{image-bit, number, with-field};
 
 // A number of `take` ones.
 fn ones(take: u32) -> u32

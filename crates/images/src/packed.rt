@@ -7,8 +7,10 @@ ghost use lib.Dec.{ltb};
 ghost use lib.ListN.{length};
 ghost use Rattle.plans.specs.Meaning.{nodes-of};
 ghost use Rattle.std.specs.Options.{Cases as BySome};
-ghost use Rattle.images.specs.Fields.{Lies, leading, image-store};
-ghost use Rattle.images.specs.ImageLaws.{image-lawful};
+ghost use Rattle.image_model.specs.Fields.{Lies, leading, image-store, put-bit};
+ghost use Rattle.image_model.specs.Image.{image-bit};
+ghost use Rattle.stores.specs.Store.{may-put, put as put-value};
+ghost use Rattle.image_model.specs.ImageLaws.{image-lawful};
 use crate::bits::read_bits;
 use crate::bits::write_bits;
 use crate::signs::fits_width;
@@ -109,7 +111,13 @@ pub impl NodeStore for PackedStore<'_, '_> as PackedNodeStore {
     }
 
     // Changes the bits of the field alone.
-    fn put(&mut self, n: NodeNumber, v: i32) -> bool {
+    fn put(&mut self, n: NodeNumber, v: i32) -> bool
+        ensures says { λ r. ⌜ r ≡ may-put (image-store (nodes-of (now (now (self .entry) .plan))) (now (now (self .entry) .image))) (n .0) v ⌝ }
+        ensures leaves { λ _. ⌜ image-store (nodes-of (now (now (self .exit) .plan))) (now (now (self .exit) .image)) ≡ put-value (image-store (nodes-of (now (now (self .entry) .plan))) (now (now (self .entry) .image))) (n .0) v ⌝ }
+        ensures plan { λ _. ⌜ now (now (self .exit) .plan) ≡ now (now (self .entry) .plan) ⌝ }
+        ensures long { λ _. ⌜ length (now (now (self .exit) .image)) ≡ length (now (now (self .entry) .image)) ⌝ }
+        ensures bits { λ r. ⌜ ((i : ℕ) → image-bit (now (now (self .exit) .image)) i ≡ put-bit (nodes-of (now (now (self .entry) .plan))) (now (now (self .entry) .image)) (n .0) v r i) ⌝ }
+    {
         let Some(f) = self.field(n) else {
             return false;
         };

@@ -3,8 +3,8 @@ ghost use mathlib.Core.Path.{_≡_};
 ghost use mathlib.Core.Bool.{true};
 ghost use Prim.Native.Nat.{ℕ, _^_, _<_, _≤_};
 ghost use lib.Signed.{_≤ℤ_};
-ghost use Rattle.images.specs.Image.{signed, bits-of, lowest, highest};
-ghost use Rattle.images.specs.Fields.{fits};
+ghost use Rattle.image_model.specs.Image.{signed, bits-of, lowest, highest};
+ghost use Rattle.image_model.specs.Fields.{fits};
 
 pub(crate) fn lowest_of(width: u8) -> i32
     requires { ⌜ 2 ≤ width ⌝ ∗ ⌜ width ≤ 16 ⌝ }

@@ -4,7 +4,7 @@ use native.Mathlib.Nat.{mod-eq-of-lt}
 use native.Mathlib.Omega.{arith}
 use lib.Bits.{bitAnd, bitOr}
 use Rattle.basics.specs.Sets.{has}
-use Rattle.images.proofs.Patches.{patch, mask-small, piece-small, patch-small, patch-has}
+use Rattle.image_model.proofs.Patches.{patch, mask-small, piece-small, patch-small, patch-has}
 use Rattle.images.proofs.bits.patched.Needs as need
 
 -- no bit of the mask or of the piece is lost

@@ -4,9 +4,9 @@ use native.Mathlib.Omega.{arith}
 use lib.ListN.{length}
 use lib.Pow.{pow-pos}
 use Rattle.std.proofs.shelf.Bits.{mod-below}
-use Rattle.images.specs.Image.{image-bit, number}
-use Rattle.images.specs.ImageLaws.{number-lt}
-use Rattle.images.proofs.Numbers.{read-step, read-room, byte-piece}
+use Rattle.image_model.specs.Image.{image-bit, number}
+use Rattle.image_model.specs.ImageLaws.{number-lt}
+use Rattle.image_model.proofs.Numbers.{read-step, read-room, byte-piece}
 use Rattle.images.proofs.bits.read_bits.Needs as need
 
 pub appended-value-requires : need.appended-value-requires

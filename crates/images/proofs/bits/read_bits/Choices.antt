@@ -1,6 +1,6 @@
 use mathlib.Core.Path.{_≡_}
 use Prim.Native.Nat.{_+_, _*_, _^_, _≤_}
-use Rattle.images.specs.Image.{image-bit, number}
+use Rattle.image_model.specs.Image.{image-bit, number}
 use Rattle.images.proofs.bits.read_bits.Given as given
 
 abbrev pub Inv-loop-left : given.InvT-loop-left

@@ -5,8 +5,8 @@ use native.Mathlib.Omega.{arith}
 use lib.Dec.{leb, ltb}
 use lib.ListN.{getD}
 use Rattle.basics.specs.Sets.{has}
-use Rattle.images.specs.Image.{image-bit, within-field}
-use Rattle.images.proofs.Patches.{write-step, write-more}
+use Rattle.image_model.specs.Image.{image-bit, within-field}
+use Rattle.image_model.proofs.Patches.{write-step, write-more}
 use Rattle.images.proofs.bits.write_bits.Needs as need
 
 pub loop-left-again : need.loop-left-again

@@ -2,7 +2,7 @@ use mathlib.Core.Path.{_≡_}
 use mathlib.Core.Bool.{cond}
 use Prim.Native.Nat.{ℕ, _+_, _-_, _≤_}
 use Rattle.basics.specs.Sets.{has}
-use Rattle.images.specs.Image.{image-bit, within-field}
+use Rattle.image_model.specs.Image.{image-bit, within-field}
 use Rattle.images.proofs.bits.write_bits.Given as given
 
 -- the bits from `at` up to `from` are written

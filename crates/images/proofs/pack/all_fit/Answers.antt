@@ -9,8 +9,8 @@ use Rattle.std.proofs.shelf.Signed.{toZ-ofZ}
 use Rattle.std.proofs.shelf.Ways.{tells}
 use Rattle.plans.specs.Meaning.{nodes-of}
 use Rattle.plans.specs.Nodes.{node-at}
-use Rattle.images.specs.Fields.{fits}
-use Rattle.images.proofs.Packing.{fit-next, fit-end}
+use Rattle.image_model.specs.Fields.{fits}
+use Rattle.image_model.proofs.Packing.{fit-next, fit-end}
 use Rattle.images.proofs.pack.all_fit.Needs as need
 
 pub returns-then-not-value-fits : need.returns-then-not-value-fits

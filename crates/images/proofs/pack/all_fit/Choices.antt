@@ -1,7 +1,7 @@
 use mathlib.Core.Path.{_≡_}
 use lib.ListN.{drop}
 use Rattle.plans.specs.Meaning.{nodes-of}
-use Rattle.images.specs.Fields.{all-fit}
+use Rattle.image_model.specs.Fields.{all-fit}
 use Rattle.images.proofs.pack.all_fit.Given as given
 
 abbrev pub Inv-loop-n : given.InvT-loop-n

@@ -15,10 +15,10 @@ use Rattle.basics.specs.Refusals.{answer-unless, leave-unless}
 use Rattle.plans.specs.Meaning.{nodes-of}
 use Rattle.plans.specs.Nodes.{node-at, field-start}
 use Rattle.plans.proofs.Starts.{start-first}
-use Rattle.images.specs.Image.{image-bit, with-field, bits-of}
-use Rattle.images.specs.Fields.{fits, packed, packed-bit, plan-bits, plan-bytes, pack-refusal}
-use Rattle.images.specs.ImageLaws.{plan-wide}
-use Rattle.images.proofs.Packing.{Long, may-pack, fit-at, pack-step, pack-end, image-is, unpack-packed}
+use Rattle.image_model.specs.Image.{image-bit, with-field, bits-of}
+use Rattle.image_model.specs.Fields.{fits, packed, packed-bit, plan-bits, plan-bytes, pack-refusal}
+use Rattle.image_model.specs.ImageLaws.{plan-wide}
+use Rattle.image_model.proofs.Packing.{Long, may-pack, fit-at, pack-step, pack-end, image-is, unpack-packed}
 use Rattle.images.proofs.pack.pack.Needs as need
 
 pub loop-n-holds : need.loop-n-holds

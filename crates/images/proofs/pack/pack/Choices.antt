@@ -4,8 +4,8 @@ use Prim.Native.Nat.{ℕ}
 use lib.Dec.{ltb}
 use Rattle.plans.specs.Meaning.{nodes-of}
 use Rattle.plans.specs.Nodes.{field-start}
-use Rattle.images.specs.Image.{image-bit}
-use Rattle.images.specs.Fields.{packed-bit}
+use Rattle.image_model.specs.Image.{image-bit}
+use Rattle.image_model.specs.Fields.{packed-bit}
 use Rattle.images.proofs.pack.pack.Given as given
 
 -- the first n fields are packed, and all further bits are as they were

@@ -5,10 +5,10 @@ use mir.Syntax.{w32}
 use Rattle.std.proofs.shelf.Signed.{toZ-ofZ}
 use Rattle.plans.specs.Meaning.{nodes-of}
 use Rattle.plans.specs.Nodes.{node-at, field-start}
-use Rattle.images.specs.Image.{image-bit, bits-of, with-field}
-use Rattle.images.specs.Fields.{fits}
-use Rattle.images.specs.ImageLaws.{plan-wide, plan-slim}
-use Rattle.images.proofs.Places.{field-inside}
+use Rattle.image_model.specs.Image.{image-bit, bits-of, with-field}
+use Rattle.image_model.specs.Fields.{fits}
+use Rattle.image_model.specs.ImageLaws.{plan-wide, plan-slim}
+use Rattle.image_model.proofs.Places.{field-inside}
 use Rattle.images.proofs.pack.pack_value.Needs as need
 
 pub twos-complement-requires : need.twos-complement-requires

@@ -9,9 +9,9 @@ use mir.Val.{SFits, toZ, ofZ}
 use Rattle.std.proofs.shelf.Signed.{toZ-ofZ}
 use Rattle.basics.specs.Refusals.{answer-unless, leave-unless}
 use Rattle.plans.specs.Meaning.{nodes-of}
-use Rattle.images.specs.Fields.{unpacked, packed, short-refusal, field-value}
-use Rattle.images.specs.ImageLaws.{plan-wide}
-use Rattle.images.proofs.Packing.{Long, may-unpack, unpack-step, unpack-end, pack-unpacked}
+use Rattle.image_model.specs.Fields.{unpacked, packed, short-refusal, field-value}
+use Rattle.image_model.specs.ImageLaws.{plan-wide}
+use Rattle.image_model.proofs.Packing.{Long, may-unpack, unpack-step, unpack-end, pack-unpacked}
 use Rattle.images.proofs.pack.unpack.Needs as need
 
 pub loop-n-again : need.loop-n-again

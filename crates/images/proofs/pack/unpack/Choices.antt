@@ -1,7 +1,7 @@
 use mathlib.Core.Path.{_≡_}
 use lib.ListN.{take, drop}
 use Rattle.plans.specs.Meaning.{nodes-of}
-use Rattle.images.specs.Fields.{unpacked}
+use Rattle.image_model.specs.Fields.{unpacked}
 use Rattle.images.proofs.pack.unpack.Given as given
 
 -- the first n values are read, and all further ones are as they were

@@ -1,8 +1,8 @@
 use native.Mathlib.Omega.{arith}
 use Rattle.plans.specs.Meaning.{nodes-of}
-use Rattle.images.specs.Image.{image-bit}
-use Rattle.images.specs.ImageLaws.{plan-wide, plan-slim, number-lt}
-use Rattle.images.proofs.Places.{field-inside}
+use Rattle.image_model.specs.Image.{image-bit}
+use Rattle.image_model.specs.ImageLaws.{plan-wide, plan-slim, number-lt}
+use Rattle.image_model.proofs.Places.{field-inside}
 use Rattle.images.proofs.pack.unpack_value.Needs as need
 
 pub read-bits-requires : need.read-bits-requires

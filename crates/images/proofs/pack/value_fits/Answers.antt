@@ -1,5 +1,5 @@
 use native.Mathlib.Omega.{arith}
-use Rattle.images.specs.ImageLaws.{plan-wide, plan-slim}
+use Rattle.image_model.specs.ImageLaws.{plan-wide, plan-slim}
 use Rattle.images.proofs.pack.value_fits.Needs as need
 
 pub fits-width-requires : need.fits-width-requires

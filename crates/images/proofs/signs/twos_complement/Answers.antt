@@ -9,9 +9,9 @@ use mir.Syntax.{w32}
 use mir.Val.{SFits, toZ, ofZ}
 use Rattle.std.proofs.shelf.Bits.{one-shl}
 use Rattle.std.proofs.shelf.Signed.{toZ-ofZ}
-use Rattle.images.specs.Image.{signed, bits-of}
-use Rattle.images.specs.Fields.{fits}
-use Rattle.images.proofs.Complement.{bits-small, bits-back, bits-natural, bits-negative, negative-small}
+use Rattle.image_model.specs.Image.{signed, bits-of}
+use Rattle.image_model.specs.Fields.{fits}
+use Rattle.image_model.proofs.Complement.{bits-small, bits-back, bits-natural, bits-negative, negative-small}
 use Rattle.images.proofs.signs.twos_complement.Needs as need
 
 -- all three clauses, of any result that has the bits

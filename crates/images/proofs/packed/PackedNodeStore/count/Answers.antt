@@ -3,7 +3,7 @@ use native.Mathlib.Omega.{arith}
 use denote.Ref.{now}
 use lib.ListN.{length}
 use Rattle.plans.specs.Meaning.{nodes-of}
-use Rattle.images.specs.ImageLaws.{leading-few}
+use Rattle.image_model.specs.ImageLaws.{leading-few}
 use Rattle.images.proofs.packed.PackedNodeStore.count.Needs as need
 
 pub loop-n-holds : need.loop-n-holds

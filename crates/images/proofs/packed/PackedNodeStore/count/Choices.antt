@@ -2,7 +2,7 @@ use Prim.Native.Nat.{_-_, _*_, _≤_}
 use denote.Ref.{now}
 use lib.ListN.{length}
 use Rattle.plans.specs.Meaning.{nodes-of}
-use Rattle.images.specs.Fields.{leading}
+use Rattle.image_model.specs.Fields.{leading}
 use Rattle.images.proofs.packed.PackedNodeStore.count.Given as given
 
 -- the n highest fields do not fit

@@ -1,7 +1,7 @@
 use native.Mathlib.Omega.{arith}
 use denote.Ref.{now}
-use Rattle.images.specs.Image.{image-bit}
-use Rattle.images.specs.ImageLaws.{number-lt}
+use Rattle.image_model.specs.Image.{image-bit}
+use Rattle.image_model.specs.ImageLaws.{number-lt}
 use Rattle.images.proofs.packed.PackedNodeStore.value.Needs as need
 
 pub sign-extended-requires : need.sign-extended-requires

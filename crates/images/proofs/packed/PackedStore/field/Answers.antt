@@ -6,8 +6,8 @@ use denote.Ref.{now}
 use Rattle.std.proofs.shelf.Tests.{le-leb, lt-leb}
 use Rattle.plans.specs.Meaning.{nodes-of}
 use Rattle.plans.specs.Nodes.{node-at, field-start}
-use Rattle.images.specs.ImageLaws.{plan-wide, plan-slim}
-use Rattle.images.proofs.Places.{leading-field, leading-past}
+use Rattle.image_model.specs.ImageLaws.{plan-wide, plan-slim}
+use Rattle.image_model.proofs.Places.{leading-field, leading-past}
 use Rattle.images.proofs.packed.PackedStore.field.Needs as need
 
 pub returns-then-n-count : need.returns-then-n-count

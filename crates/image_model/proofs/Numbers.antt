@@ -14,8 +14,8 @@ use Rattle.std.proofs.shelf.Tests.{cases-lt, cases-eq, lt-ltb}
 use Rattle.std.proofs.shelf.Ways.{tells}
 use Rattle.basics.specs.Sets.{has}
 use Rattle.basics.proofs.Masks.{has-past, has-ext, has-suc, has-shr, has-mod}
-use Rattle.images.specs.Image.{image-bit, number}
-use Rattle.images.specs.ImageLaws.{digit-small, number-lt}
+use Rattle.image_model.specs.Image.{image-bit, number}
+use Rattle.image_model.specs.ImageLaws.{digit-small, number-lt}
 
 abbrev digit : Bool → ℕ
 digit b = cond b 1 0

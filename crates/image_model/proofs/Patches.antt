@@ -12,7 +12,7 @@ use lib.ListN.{length, getD, set}
 use lib.Seq.{getD-set-same, getD-set-other}
 use mathlib.Core.List.{List}
 use Rattle.std.proofs.shelf.Tests.{cases-lt, cases-eq, lt-ltb, le-ltb, le-leb, lt-leb}
-use Rattle.images.specs.Image.{image-bit, within-field}
+use Rattle.image_model.specs.Image.{image-bit, within-field}
 use Rattle.std.proofs.shelf.Ways.{tells}
 use Rattle.basics.specs.Sets.{has}
 use Rattle.basics.proofs.Masks.{has-or, has-and, has-shl, has-full, has-clear, has-past, has-mod, has-shr}

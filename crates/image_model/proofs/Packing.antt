@@ -20,12 +20,12 @@ use Rattle.basics.proofs.Masks.{has-none}
 use Rattle.plans.specs.declared.plan.Node.{Node}
 use Rattle.plans.specs.Nodes.{no-node, node-at, field-start}
 use Rattle.plans.proofs.Starts.{start-first, start-next}
-use Rattle.images.specs.Image.{image-bit, number, bytes, signed, bits-of, within-field, with-field}
-use Rattle.images.specs.Fields.{plan-bits, plan-bytes, field-value, unpacked, packed-bit, packed, spare-cleared, fits, all-fit, short-refusal, pack-refusal}
-use Rattle.images.specs.ImageLaws.{number-lt}
-use Rattle.images.proofs.Complement.{bits-small, bits-back, signed-bits}
-use Rattle.images.proofs.Places.{field-inside}
-use Rattle.images.proofs.Numbers.{number-is, number-same, number-has, number-byte}
+use Rattle.image_model.specs.Image.{image-bit, number, bytes, signed, bits-of, within-field, with-field}
+use Rattle.image_model.specs.Fields.{plan-bits, plan-bytes, field-value, unpacked, packed-bit, packed, spare-cleared, fits, all-fit, short-refusal, pack-refusal}
+use Rattle.image_model.specs.ImageLaws.{number-lt}
+use Rattle.image_model.proofs.Complement.{bits-small, bits-back, signed-bits}
+use Rattle.image_model.proofs.Places.{field-inside}
+use Rattle.image_model.proofs.Numbers.{number-is, number-same, number-has, number-byte}
 
 -- a bit of the packed row lies in its node's field
 pub packed-at : (nodes : List Node) (vs : List ℤ) (n j : ℕ) → n < length nodes → n < length vs → j < node-at nodes n .width → packed-bit nodes vs (field-start nodes n + j) ≡ has (bits-of (node-at nodes n .width) (getD vs n (pos 0))) (node-at nodes n .width - 1 - j)

@@ -15,7 +15,7 @@ use Rattle.basics.specs.Sets.{has}
 use Rattle.plans.specs.declared.plan.Node.{Node}
 use Rattle.plans.specs.Nodes.{node-at, field-start}
 use Rattle.stores.specs.Store.{Store}
-use Rattle.images.specs.Image.{image-bit, number, bytes, signed, bits-of, lowest, highest}
+use Rattle.image_model.specs.Image.{image-bit, number, bytes, signed, bits-of, lowest, highest, with-field}
 
 -- the bits that all fields take, and the bytes that hold them
 abbrev pub plan-bits : List Node → ℕ
@@ -100,3 +100,10 @@ abbrev pub pack-refusal : List Node → List ℤ → ℕ → Option Refusal
 pack-refusal nodes values image =
     cond (ltb (length values) (length nodes) || ltb image (plan-bytes nodes)) (Some ShortBuffer)
     (cond (all-fit nodes values) None (Some OutOfRange))
+
+-- bit i of an image after v was put at node n: where it was taken, the bits of the field are v's, and all others stay
+abbrev pub put-bit : List Node → List ℕ → ℕ → ℤ → Bool → ℕ → Bool
+put-bit nodes image n v taken i =
+    cond taken
+      (with-field (image-bit image) (field-start nodes n) (node-at nodes n .width) (bits-of (node-at nodes n .width) v) i)
+      (image-bit image i)

@@ -17,10 +17,10 @@ use Rattle.plans.proofs.Starts.{start-first, start-next}
 use Rattle.basics.specs.Sets.{has}
 use Rattle.stores.specs.Store.{Store, set-value, may-put}
 use Rattle.stores.proofs.Stores.{same-store}
-use Rattle.images.specs.Image.{image-bit, number, signed, lowest, highest, within-field, with-field}
-use Rattle.images.specs.Fields.{Lies, leading, fits, field-value, or-nought, image-store}
-use Rattle.images.specs.ImageLaws.{leading-few, or-nought-past}
-use Rattle.images.proofs.Numbers.{number-is, number-same}
+use Rattle.image_model.specs.Image.{image-bit, number, signed, lowest, highest, within-field, with-field}
+use Rattle.image_model.specs.Fields.{Lies, leading, fits, field-value, or-nought, image-store}
+use Rattle.image_model.specs.ImageLaws.{leading-few, or-nought-past}
+use Rattle.image_model.proofs.Numbers.{number-is, number-same}
 
 leading-at : (nodes : List Node) (room n : ℕ) → n < length nodes → ltb n (leading nodes room) ≡ leb (field-start nodes (suc n)) room
 leading-at [] room n h = absurd (omega arith)

@@ -19,8 +19,8 @@ use Rattle.plans.specs.declared.plan.Plan.{Plan}
 use Rattle.plans.specs.Meaning.{nodes-of}
 use Rattle.plans.specs.Nodes.{no-node, node-at, field-start}
 use Rattle.stores.specs.Store.{Store, Small, Lawful}
-use Rattle.images.specs.Image.{image-bit, number, signed, lowest, highest}
-use Rattle.images.specs.Fields.{field-value, leading, or-nought, image-store}
+use Rattle.image_model.specs.Image.{image-bit, number, signed, lowest, highest}
+use Rattle.image_model.specs.Fields.{field-value, leading, or-nought, image-store}
 
 pub digit-small : (b : Bool) → cond b 1 0 < 2
 digit-small true = omega arith

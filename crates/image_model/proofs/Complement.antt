@@ -11,9 +11,9 @@ use lib.Pow.{pow-pos}
 use lib.Signed.{leZ, _≤ℤ_}
 use Rattle.std.proofs.shelf.Signed.{ints}
 use Rattle.std.proofs.shelf.Tests.{and-parts, leb-true, lt-ltb, le-ltb, ltb-true, ltb-false, cond-true, cond-false, cases-lt, and-from, le-leb, false≢true, both-ways}
-use Rattle.images.specs.Image.{signed, bits-of, lowest, highest}
-use Rattle.images.specs.Fields.{fits}
-use Rattle.images.specs.ImageLaws.{double}
+use Rattle.image_model.specs.Image.{signed, bits-of, lowest, highest}
+use Rattle.image_model.specs.Fields.{fits}
+use Rattle.image_model.specs.ImageLaws.{double}
 
 pub negative-room : (w n : ℕ) → leZ (lowest w) (negsuc n) ≡ true → suc n ≤ 2 ^ (w - 1)
 negative-room w n h = grind (arith, ints)

@@ -1,0 +1,5 @@
+pub mod Complement
+pub mod Numbers
+pub mod Packing
+pub mod Patches
+pub mod Places

@@ -1,0 +1,1 @@
+// What the packed image of a plan means, and its laws: definitions and proofs, no code.

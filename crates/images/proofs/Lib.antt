@@ -1,5 +1,0 @@
-mod Complement
-mod Numbers
-mod Packing
-mod Patches
-mod Places
