@@ -179,3 +179,28 @@ meets-members a b = (
   λ (n, l, r). not-from-false _ (ne-eqb (bitAnd a b) 0 (λ z.
       both-ways (has 0 n) (has-none n) (ap (λ m. has m n) (sym z) ∙ has-and a b n ∙ and-from _ _ l r))),
 )
+
+pub counted-le : (p : ℕ → Bool) (k : ℕ) → counted p k ≤ k
+counted-le p zero = omega arith
+counted-le p (suc k) = let h = counted-le p k in grind (arith, tells)
+
+-- two parts of p that are more than p together have a member in common
+crowded : (p a b w : ℕ) → counted (has p) w < counted (has (bitAnd p a)) w + counted (has (bitAnd p b)) w → (n : ℕ) × (has p n ≡ true) × (has a n ≡ true) × (has b n ≡ true)
+crowded p a b zero h = absurd (omega arith)
+crowded p a b (suc w) h = elim (cases-bool (has p w && (has a w && has b w))) [
+  | inl t ↦ let (up, both) = and-parts (has p w) _ t in let (l, r) = and-parts (has a w) _ both in (w, up, l, r)
+  | inr f ↦
+      let l = has-and p a w in
+      let r = has-and p b w in
+      crowded p a b w (grind (arith, tells))
+]
+
+-- two majorities of p have a member in common
+pub majorities : (p a b w : ℕ) → counted (has p) w < 2 * counted (has (bitAnd p a)) w → counted (has p) w < 2 * counted (has (bitAnd p b)) w → (n : ℕ) × (has p n ≡ true) × (has a n ≡ true) × (has b n ≡ true)
+majorities p a b w one two = crowded p a b w (omega arith)
+
+-- a single member that is in a is a majority
+pub single : (p a w : ℕ) → counted (has p) w ≡ 1 → within p a ≡ true → counted (has p) w < 2 * counted (has (bitAnd p a)) w
+single p a w one part =
+    let same : counted (has (bitAnd p a)) w ≡ counted (has p) w = ap (λ m. counted (has m) w) (eqb-true (bitAnd p a) p part) in
+    omega arith
