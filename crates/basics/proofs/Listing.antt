@@ -5,10 +5,11 @@ use mathlib.Core.List.{List, [], _∷_}
 use Prim.Native.Nat.{ℕ, zero, suc, _+_, _-_, _<_, _≤_}
 use native.Mathlib.Omega.{arith}
 use lib.Dec.{eqb, ltb}
-use lib.ListN.{length, getD, drop}
+use lib.ListN.{length, getD, drop, set}
+use lib.Seq.{getD-set-same, getD-set-other}
 use Rattle.std.proofs.shelf.Lists.{at-drop-more, at-drop-all}
-use Rattle.std.proofs.shelf.Tests.{lt-ltb, le-ltb, ltb-true, eqb-true, eq-eqb, and-parts, and-from, or-cases, or-left, cases-lt, both-ways, false≢true}
-use mathlib.Core.Logic.{_⊎_, inl, inr, ⊎-elim}
+use Rattle.std.proofs.shelf.Tests.{lt-ltb, le-ltb, ltb-true, eqb-true, eq-eqb, and-parts, and-from, or-cases, or-left, cases-lt, cases-eq, both-ways, false≢true}
+use mathlib.Core.Logic.{_⊎_, inl, inr, ⊎-elim, _≢_}
 use Rattle.std.proofs.shelf.Ways.{tells}
 use Rattle.basics.specs.declared.node.NodeNumber.{NodeNumber}
 use Rattle.basics.specs.Sets.{has, with-member}
@@ -89,3 +90,10 @@ all-below-more a b (n ∷ ns) le h =
     let (here, rest) = and-parts (ltb (n .0) a) (all-below a ns) h in
     let l = ltb-true (n .0) a here in
     and-from (ltb (n .0) b) (all-below b ns) (lt-ltb (n .0) b (omega arith)) (all-below-more a b ns le rest)
+
+-- what holds of each of the first elements, and of a new one put after them, holds of them all
+pub each-more : {X : Type 0} (P : ℕ → X → Type 0) (none : X) (xs : List X) (count : ℕ) (new : X) → count < length xs → ((n : ℕ) → n < count → P n (getD xs n none)) → P count new → (n : ℕ) → n < count + 1 → P n (getD (set xs count new) n none)
+each-more P none xs count new l old here n h = elim (cases-eq n count) [
+  | inl q ↦ rw (q, getD-set-same) here
+  | inr ne ↦ rw getD-set-other (old n (omega arith))
+]

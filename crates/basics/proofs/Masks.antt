@@ -228,3 +228,28 @@ has-mod m t p =
 
 pub has-suc : (m n : ℕ) → has m (suc n) ≡ has (m / 2) n
 has-suc m n = ap (λ x. eqb x 1) (half-bit m n)
+
+pub counted-le : (p : ℕ → Bool) (k : ℕ) → counted p k ≤ k
+counted-le p zero = omega arith
+counted-le p (suc k) = let h = counted-le p k in grind (arith, tells)
+
+-- two parts of p that are more than p together have a member in common
+crowded : (p a b w : ℕ) → counted (has p) w < counted (has (bitAnd p a)) w + counted (has (bitAnd p b)) w → (n : ℕ) × (has p n ≡ true) × (has a n ≡ true) × (has b n ≡ true)
+crowded p a b zero h = absurd (omega arith)
+crowded p a b (suc w) h = elim (cases-bool (has p w && (has a w && has b w))) [
+  | inl t ↦ let (up, both) = and-parts (has p w) _ t in let (l, r) = and-parts (has a w) _ both in (w, up, l, r)
+  | inr f ↦
+      let l = has-and p a w in
+      let r = has-and p b w in
+      crowded p a b w (grind (arith, tells))
+]
+
+-- two majorities of p have a member in common
+pub majorities : (p a b w : ℕ) → counted (has p) w < 2 * counted (has (bitAnd p a)) w → counted (has p) w < 2 * counted (has (bitAnd p b)) w → (n : ℕ) × (has p n ≡ true) × (has a n ≡ true) × (has b n ≡ true)
+majorities p a b w one two = crowded p a b w (omega arith)
+
+-- a single member that is in a is a majority
+pub single : (p a w : ℕ) → counted (has p) w ≡ 1 → within p a ≡ true → counted (has p) w < 2 * counted (has (bitAnd p a)) w
+single p a w one part =
+    let same : counted (has (bitAnd p a)) w ≡ counted (has p) w = ap (λ m. counted (has m) w) (eqb-true (bitAnd p a) p part) in
+    omega arith

@@ -1,0 +1,9 @@
+pub mod Adding
+pub mod Choice
+pub mod GuardRules
+pub mod Guards
+pub mod Locking
+pub mod Meaning
+pub mod Parents
+pub mod PlanRules
+pub mod Rule
