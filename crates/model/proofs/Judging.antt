@@ -1,0 +1,31 @@
+-- A call that is judged: refused by a check that applies, or passed by all.
+use mathlib.Core.Path.{_≡_, refl, _∙_, ap}
+use mathlib.Core.Bool.{Bool, true, false}
+use mathlib.Core.List.{List, [], _∷_}
+use Rattle.std.specs.declared.option.Option.the-variants.{Some}
+use Rattle.std.proofs.shelf.Tests.{cond-both, cond-false}
+use Rattle.basics.specs.declared.refusal.Refusal.{Refusal}
+use Rattle.model.specs.Calls.{Answer, refused, first-refusal, unless-refused}
+
+-- P holds of each refusal, where its check applies and none before it, and of a where none applies
+abbrev pub Cases : (Answer → Type 0) → List (Bool × Refusal) → Answer → Type 0
+Cases P [] a = P a
+Cases P (c ∷ cs) a = (c .0 ≡ true → P (refused (c .1))) × (c .0 ≡ false → Cases P cs a)
+
+-- no check applies
+abbrev pub Passed : List (Bool × Refusal) → Type 0
+Passed [] = Unit {0}
+Passed (c ∷ cs) = (c .0 ≡ false) × Passed cs
+
+pub judged-cases : (P : Answer → Type 0) (cs : List (Bool × Refusal)) (a : Answer) → Cases P cs a → P (unless-refused (first-refusal cs) a)
+judged-cases P [] a p = p
+judged-cases P (c ∷ cs) a p = cond-both (c .0) (Some (c .1)) (first-refusal cs) (λ o. P (unless-refused o a)) (p .0) (λ e. judged-cases P cs a (p .1 e))
+
+-- where every refusal is alike
+pub alike-cases : (P : Answer → Type 0) (cs : List (Bool × Refusal)) (a : Answer) → ((k : Refusal) → P (refused k)) → (Passed cs → P a) → Cases P cs a
+alike-cases P [] a r f = f tt
+alike-cases P (c ∷ cs) a r f = (λ e. r (c .1), λ e. alike-cases P cs a r (λ p. f (e, p)))
+
+pub judged-passed : (cs : List (Bool × Refusal)) (a : Answer) → Passed cs → unless-refused (first-refusal cs) a ≡ a
+judged-passed [] a p = refl
+judged-passed (c ∷ cs) a p = ap (λ o. unless-refused o a) (cond-false (c .0) (Some (c .1)) (first-refusal cs) (p .0)) ∙ judged-passed cs a (p .1)
