@@ -6,9 +6,10 @@ use mathlib.Core.Bool.{_&&_}
 use Prim.Native.Nat.{ℕ, _<_}
 use native.Mathlib.Omega.{arith}
 use lib.Dec.{eqb, ltb}
+use lib.Bits.{bitOr}
 use Rattle.std.specs.declared.option.Option.{Option}
 use Rattle.std.specs.declared.option.Option.the-variants.{Some, None}
-use Rattle.std.proofs.shelf.Tests.{cases-eq, or-cases, and-parts, eqb-true}
+use Rattle.std.proofs.shelf.Tests.{cases-eq, or-cases, and-parts, eqb-true, cases-bool, both-ways, lt-ltb, cond-true, cond-false}
 use Rattle.basics.proofs.Masks.{no-member, some-member, or-members, with-members, has-with, has-empty}
 use Rattle.basics.specs.Sets.{has}
 use Rattle.basics.specs.declared.transaction.TransactionNumber.{TransactionNumber}
@@ -17,7 +18,7 @@ use Rattle.model.specs.declared.table.Phase.{Phase}
 use Rattle.model.specs.declared.table.Phase.the-variants.{Open, Waiting, Ended}
 use Rattle.model.specs.Lists.{In, Before}
 use Rattle.model.specs.Calls.{Event}
-use Rattle.model.specs.State.{State, earlier-than, node, transaction, phase, locked, holder, Waits, Holds}
+use Rattle.model.specs.State.{begun-count, State, earlier-than, node, transaction, phase, locked, holder, Waits, Holds}
 use Rattle.model.specs.Step.{session}
 use Rattle.model.specs.Order.{holder-set, waited-for, predecessors, serial-order}
 use Rattle.model.specs.History.{accesses, lockers-of}
@@ -32,7 +33,7 @@ use Rattle.model.proofs.Queues.{minimal-of-all}
 use Rattle.model.proofs.Placing.{Placed, all-placed}
 use Rattle.model.proofs.Replays.{right-answers, right-over, values-over}
 use Rattle.model.proofs.Phases.{same-node, not-waiting}
-use Rattle.model.proofs.Inv.{May, meeting, view, Inv}
+use Rattle.model.proofs.Inv.{all-begun, May, meeting, view, Inv}
 use Rattle.model.proofs.Steps.{every-run}
 use Rattle.model.proofs.Waiters.{waiters, want, waiters-wait, is-waiter, wants, waiters-distinct}
 
@@ -70,8 +71,14 @@ module _ (first : Store) (h : List Event) (s : State) (i : Inv first s (lockers-
   lockers-apart : (n u t : ℕ) → Before u t (lockers-of h n) → u ≡ t → ⊥
   lockers-apart n u t b q = before-irrefl (lockers-of h n) t (i .kept .sound .distinct n) (rw q at b)
 
-  report : (u t : ℕ) → (u ∈ predecessors s t) ↔ Precedes h s u t
-  report u t = (
+  precedes-begun : (u t : ℕ) → Precedes h s u t → (u < s .begun) × (t < s .begun)
+  precedes-begun u t p = elim (p .1) [
+    | inl (n, b) ↦ (i .begun-is n u (before-left _ u t b), i .begun-is n t (before-right _ u t b))
+    | inr (n, w, e) ↦ (holder-begun n u e, i .asks t n w .0)
+  ]
+
+  reported : (u t : ℕ) → (u ∈ bitOr (earlier-than s t) (waited-for s (phase s t))) ↔ Precedes h s u t
+  reported u t = (
     λ b. elim (or-members (earlier-than s t) (waited-for s (phase s t)) u .0 b) [
       | inl c ↦ let (n, d) = i .earlier-is t u .0 c in (lockers-apart n u t d, inl (n, d))
       | inr c ↦ let (n, w, e) = way-is (phase s t) u .0 c in (waiting-apart t n u w e, inr (n, w, e))
@@ -82,10 +89,13 @@ module _ (first : Store) (h : List Event) (s : State) (i : Inv first s (lockers-
     ]),
   )
 
-  precedes-begun : (u t : ℕ) → Precedes h s u t → (u < s .begun) × (t < s .begun)
-  precedes-begun u t p = elim (p .1) [
-    | inl (n, b) ↦ (i .begun-is n u (before-left _ u t b), i .begun-is n t (before-right _ u t b))
-    | inr (n, w, e) ↦ (holder-begun n u e, i .asks t n w .0)
+  report : (u t : ℕ) → (u ∈ predecessors s t) ↔ Precedes h s u t
+  report u t = elim (cases-bool (ltb t (begun-count s))) [
+    | inl e ↦ rw (cond-true (ltb t (begun-count s)) (bitOr (earlier-than s t) (waited-for s (phase s t))) 0 e) (reported u t)
+    | inr e ↦ rw (cond-false (ltb t (begun-count s)) (bitOr (earlier-than s t) (waited-for s (phase s t))) 0 e) (
+      λ b. absurd (no-member u b),
+      λ p. absurd (both-ways (ltb t (begun-count s)) e (lt-ltb t (begun-count s) (omega (arith, i .few, precedes-begun u t p .1)))),
+    )
   ]
 
   asks : (t : ℕ) → In t (waiters s) → Asks _∈_ (May (s .rule)) v (want s t) t
@@ -108,7 +118,7 @@ module _ (first : Store) (h : List Event) (s : State) (i : Inv first s (lockers-
       )
 
   placed : Placed (predecessors s) (s .begun) 0 (serial-order s)
-  placed = all-placed (predecessors s) (s .begun) (i .few) (λ u t b. precedes-begun u t (report u t .0 b) .0) least
+  placed = rw (all-begun s (i .few)) (all-placed (predecessors s) (s .begun) (i .few) (λ u t b. precedes-begun u t (report u t .0 b) .0) least)
 
   follows : (u t : ℕ) → Precedes h s u t → Before u t (serial-order s)
   follows u t p =

@@ -16,7 +16,7 @@ use Rattle.rules.specs.Rule.{Rule}
 use Rattle.stores.specs.Store.{Store}
 use Rattle.model.specs.declared.table.Phase.the-variants.{Ended}
 use Rattle.model.specs.Lists.{In, Before}
-use Rattle.model.specs.State.{State, transactions, lockers-at, earlier-than, blank, phase, locked, held, count, Waits, Holds, start}
+use Rattle.model.specs.State.{begun-count, State, transactions, lockers-at, earlier-than, blank, phase, locked, held, count, Waits, Holds, start}
 use Rattle.model.specs.History.{Access}
 use Rattle.model.specs.Replay.{Below, replay}
 use Rattle.model.proofs.Members.{_∈_}
@@ -62,6 +62,9 @@ pub record Inv (first : Store) (s : State) (C : ℕ → List ℕ) (A : List Acce
   pub owned : Below (s .begun) A
   pub right : Right first A
   pub same-store : replay first A ≡ s .store
+
+pub all-begun : (s : State) → s .begun ≤ 32 → begun-count s ≡ s .begun
+all-begun s few = omega arith
 
 -- an array of one element
 getD-same : {X : Type 0} (k i : ℕ) (x : X) → getD (replicate k x) i x ≡ x

@@ -1,11 +1,12 @@
 -- A call that is judged: refused by a check that applies, or passed by all.
 use mathlib.Core.Path.{_≡_, refl, _∙_, ap}
 use mathlib.Core.Bool.{Bool, true, false}
-use mathlib.Core.List.{List, [], _∷_}
+use mathlib.Core.List.{List, [], _∷_, _++_}
+use mathlib.Core.Logic.{inl, inr}
 use Rattle.std.specs.declared.option.Option.the-variants.{Some}
-use Rattle.std.proofs.shelf.Tests.{cond-both, cond-false}
+use Rattle.std.proofs.shelf.Tests.{cases-bool, cond-both, cond-false}
 use Rattle.basics.specs.declared.refusal.Refusal.{Refusal}
-use Rattle.model.specs.Calls.{Answer, refused, first-refusal, unless-refused}
+use Rattle.model.specs.Calls.{Answer, refused, first-refusal, or-else, unless-refused}
 
 -- P holds of each refusal, where its check applies and none before it, and of a where none applies
 abbrev pub Cases : (Answer → Type 0) → List (Bool × Refusal) → Answer → Type 0
@@ -20,6 +21,11 @@ Passed (c ∷ cs) = (c .0 ≡ false) × Passed cs
 pub judged-cases : (P : Answer → Type 0) (cs : List (Bool × Refusal)) (a : Answer) → Cases P cs a → P (unless-refused (first-refusal cs) a)
 judged-cases P [] a p = p
 judged-cases P (c ∷ cs) a p = cond-both (c .0) (Some (c .1)) (first-refusal cs) (λ o. P (unless-refused o a)) (p .0) (λ e. judged-cases P cs a (p .1 e))
+
+-- checks in two parts
+pub or-else-append : (cs ds : List (Bool × Refusal)) → or-else (first-refusal cs) (first-refusal ds) ≡ first-refusal (cs ++ ds)
+or-else-append [] ds = refl
+or-else-append (c ∷ cs) ds = elim (cases-bool (c .0)) [ inl e ↦ rw e refl | inr e ↦ rw e (or-else-append cs ds) ]
 
 -- where every refusal is alike
 pub alike-cases : (P : Answer → Type 0) (cs : List (Bool × Refusal)) (a : Answer) → ((k : Refusal) → P (refused k)) → (Passed cs → P a) → Cases P cs a

@@ -4,14 +4,15 @@ use mathlib.Core.Bool.{not}
 use mathlib.Core.List.{List, [], _∷_}
 use mathlib.Core.Logic.{inl, inr}
 use Prim.Native.Nat.{ℕ}
+use native.Mathlib.Omega.{arith}
 use lib.IntN.{pos}
 use Rattle.std.proofs.shelf.Tests.{eq-eqb, lt-leb}
 use Rattle.basics.proofs.Masks.{no-member}
 use Rattle.stores.specs.Store.{Store}
 use Rattle.model.specs.Lists.{In, Before, Distinct}
 use Rattle.model.specs.Calls.{Event, lock, done}
-use Rattle.model.specs.State.{State, locked, holder, count, Waits, Holds}
-use Rattle.model.specs.Checks.{is-ended, waits-elsewhere, checks, grant-or-wait, answer}
+use Rattle.model.specs.State.{begun-count, State, locked, holder, count, Waits, Holds}
+use Rattle.model.specs.Checks.{lock-checks, is-ended, waits-elsewhere, grant-or-wait, answer}
 use Rattle.model.specs.Step.{session}
 use Rattle.model.specs.Order.{serial-order}
 use Rattle.model.specs.History.{accesses, lockers-of}
@@ -48,8 +49,8 @@ module _ (first : Store) (h : List Event) (s : State) (i : Inv first s (lockers-
   again : (t n : ℕ) → Waits s t n → answer s (lock t n) ≡ grant-or-wait (holder s n)
   again t n w =
       let (l, f, m, c) = i .asks t n w in
-      judged-passed (checks s (lock t n)) (grant-or-wait (holder s n)) (
-        lt-leb (s .begun) t l,
+      judged-passed (lock-checks s t n) (grant-or-wait (holder s n)) (
+        lt-leb (begun-count s) t (omega (arith, l, i .few)),
         (ap is-ended w, (lt-leb (count s) n c, (ap (λ p. waits-elsewhere p n) w ∙ ap not (eq-eqb n n refl), (lacks (locked s t) n f, (ap not m, tt))))),
       )
 

@@ -1,6 +1,6 @@
 -- Every call keeps what holds of a session.
 use mathlib.Core.Path.{_≡_, refl, sym, _∙_, ap, fun-ext, subst⁻¹, subst₂}
-use mathlib.Core.Bool.{true, false, cond, _&&_}
+use mathlib.Core.Bool.{Bool, true, false, cond, _&&_}
 use mathlib.Core.List.{List, [], _∷_, _++_, append-nil, append-assoc}
 use Prim.Native.Nat.{ℕ, _<_}
 use native.Mathlib.Omega.{arith}
@@ -16,14 +16,14 @@ use Rattle.basics.specs.declared.transaction.TransactionNumber.{TransactionNumb
 use Rattle.rules.specs.Rule.{Rule}
 use Rattle.stores.specs.Store.{Store, in-range, set-value, put}
 use Rattle.model.specs.declared.table.Phase.the-variants.{Open, Waiting}
-use Rattle.model.specs.Calls.{Operation, read, write, adjust, Call, begin, lock, release, access, withdraw, end, Answer, done, waiting, refused, Event}
-use Rattle.model.specs.State.{State, node, locked, held, holder, count, start}
-use Rattle.model.specs.Checks.{operation-checks, result, checks, unrefused, grant-or-wait, answer}
+use Rattle.model.specs.Calls.{first-refusal, unless-refused, Operation, read, write, adjust, Call, begin, lock, release, access, withdraw, end, Answer, done, waiting, refused, Event}
+use Rattle.model.specs.State.{begun-count, State, node, locked, held, holder, count, start}
+use Rattle.model.specs.Checks.{begin-checks, lock-checks, use-checks, withdraw-checks, end-checks, operation-checks, result, unrefused, grant-or-wait, answer}
 use Rattle.model.specs.Step.{performed, after, with-store, Run, step, run, session}
 use Rattle.model.specs.History.{Access, of-operation, accessed, accesses, grants-of, lockers-of}
 use Rattle.model.specs.Replay.{written, replay-answer, replayed}
 use Rattle.model.proofs.Members.{_∈_}
-use Rattle.model.proofs.Judging.{Cases, Passed, judged-cases, alike-cases}
+use Rattle.model.proofs.Judging.{or-else-append, Cases, Passed, judged-cases, alike-cases}
 use Rattle.model.proofs.Phases.{not-waiting, same-node}
 use Rattle.model.proofs.Inv.{Asking, Inv, start-inv}
 use Rattle.model.proofs.Changes.{begun-kept, stored-kept, stands-kept, released-kept, ended-kept}
@@ -95,27 +95,28 @@ module _ (first : Store) (r : Run) (i : Holding first r) where
   refuses c k e = quiet c (refused k) (none-granted c k) e here
 
   -- a call other than an access is unless-refused
-  judges : (c : Call) → ((k : Refusal) → accessed c (refused k) ≡ []) → (Passed (checks (r .state) c) → Next c (unrefused (r .state) c)) → Next c (answer (r .state) c)
-  judges c e f = judged-cases (Next c) (checks (r .state) c) (unrefused (r .state) c) (alike-cases (Next c) (checks (r .state) c) (unrefused (r .state) c) (λ k. refuses c k (e k)) f)
+  judges : (c : Call) (cs : List (Bool × Refusal)) → ((k : Refusal) → accessed c (refused k) ≡ [])
+      → (Passed cs → Next c (unrefused (r .state) c)) → Next c (unless-refused (first-refusal cs) (unrefused (r .state) c))
+  judges c cs e f = judged-cases (Next c) cs (unrefused (r .state) c) (alike-cases (Next c) cs (unrefused (r .state) c) (λ k. refuses c k (e k)) f)
 
   begins : Next begin (answer (r .state) begin)
-  begins = judges begin (λ k. refl) (λ p. quiet begin _ (λ n. refl) refl (begun-kept first (r .state) C A here (leb-false 32 _ (p .0))))
+  begins = judges begin (begin-checks (r .state)) (λ k. refl) (λ p. quiet begin _ (λ n. refl) refl (begun-kept first (r .state) C A here (leb-false 32 _ (p .0))))
 
   module _ (t : ℕ) where
     withdraws : Next (withdraw t) (answer (r .state) (withdraw t))
-    withdraws = judges (withdraw t) (λ k. refl) (λ p. quiet (withdraw t) _ (λ n. refl) refl
-        (stands-kept first (r .state) C A here t (leb-false _ t (p .0)) Open (λ n w. absurd (not-waiting Open (node n) refl w)) refl))
+    withdraws = judges (withdraw t) (withdraw-checks (r .state) t) (λ k. refl) (λ p. quiet (withdraw t) _ (λ n. refl) refl
+        (stands-kept first (r .state) C A here t (omega (arith, leb-false (begun-count (r .state)) t (p .0))) Open (λ n w. absurd (not-waiting Open (node n) refl w)) refl))
 
     ends : Next (end t) (answer (r .state) (end t))
-    ends = judges (end t) (λ k. refl) (λ p. quiet (end t) _ (λ n. refl) refl (ended-kept first (r .state) C A here t (leb-false _ t (p .0))))
+    ends = judges (end t) (end-checks (r .state) t) (λ k. refl) (λ p. quiet (end t) _ (λ n. refl) refl (ended-kept first (r .state) C A here t (omega (arith, leb-false (begun-count (r .state)) t (p .0)))))
 
     module _ (n : ℕ) where
       few : leb (count (r .state)) n ≡ false → n < 64
       few e = omega (arith, leb-false (count (r .state)) n e, r .state .rule .few)
 
       releases : Next (release t n) (answer (r .state) (release t n))
-      releases = judges (release t n) (λ k. refl) (λ p. quiet (release t n) _ (λ m. refl) refl
-          (released-kept first (r .state) C A here t (leb-false _ t (p .0)) n (few (p .1 .1 .0))
+      releases = judges (release t n) (use-checks (r .state) t n) (λ k. refl) (λ p. quiet (release t n) _ (λ m. refl) refl
+          (released-kept first (r .state) C A here t (omega (arith, leb-false (begun-count (r .state)) t (p .0))) n (few (p .1 .1 .0))
           (not-false _ (p .1 .1 .1 .1 .0)) (p .1 .1 .1 .0) (p .1 .0)))
 
       module _ (h : n ∈ held (r .state) t) (c : n < r .state .store .count) where
@@ -152,7 +153,8 @@ module _ (first : Store) (r : Run) (i : Holding first r) where
       accesses-node : (d : Operation) → Next (access t n d) (answer (r .state) (access t n d))
       accesses-node d =
           let no : (k : Refusal) → accessed (access t n d) (refused k) ≡ [] → Next (access t n d) (refused k) = refuses (access t n d) in
-          judged-cases (Next (access t n d)) (checks (r .state) (access t n d)) (unrefused (r .state) (access t n d)) (
+          rw (or-else-append (use-checks (r .state) t n) (operation-checks (r .state .store) n d))
+          (judged-cases (Next (access t n d)) (use-checks (r .state) t n ++ operation-checks (r .state .store) n d) (unrefused (r .state) (access t n d)) (
             λ e. no NotBegun refl,
             λ e. (
               λ e. no AlreadyEnded refl,
@@ -168,7 +170,7 @@ module _ (first : Store) (r : Run) (i : Holding first r) where
                 ),
               ),
             ),
-          )
+          ))
 
       locking : t < r .state .begun → n < 64 → Asking (r .state) t n → (o : Option TransactionNumber) → holder (r .state) n ≡ o → Next (lock t n) (grant-or-wait o)
       unfolding C A
@@ -185,8 +187,8 @@ module _ (first : Store) (r : Run) (i : Holding first r) where
           (λ m w. let q : n ≡ m = same-node (Waiting (node n)) n m refl w in rw (← q) (asking .1, asking .2, asking .3)) refl)
 
       locks : Next (lock t n) (answer (r .state) (lock t n))
-      locks = judges (lock t n) (λ k. refl) (λ p.
-          let l : t < r .state .begun = leb-false _ t (p .0) in
+      locks = judges (lock t n) (lock-checks (r .state) t n) (λ k. refl) (λ p.
+          let l : t < r .state .begun = omega (arith, leb-false (begun-count (r .state)) t (p .0)) in
           locking l (few (p .1 .1 .0))
           (l, both-ways (has (locked (r .state) t) n) (p .1 .1 .1 .1 .0), not-false _ (p .1 .1 .1 .1 .1 .0), leb-false _ n (p .1 .1 .0))
           (holder (r .state) n) refl)

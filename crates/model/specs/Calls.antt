@@ -43,6 +43,11 @@ abbrev pub first-refusal : List (Bool × Refusal) → Option Refusal
 first-refusal [] = None
 first-refusal (check ∷ checks) = cond (check .0) (Some (check .1)) (first-refusal checks)
 
+-- x, or else y
+abbrev pub or-else : {A : Type 0} → Option A → Option A → Option A
+or-else None y = y
+or-else (Some x) y = Some x
+
 -- refused, where a refusal applies, and else the answer a
 abbrev pub unless-refused : Option Refusal → Answer → Answer
 unless-refused None a = a

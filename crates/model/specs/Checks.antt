@@ -25,8 +25,8 @@ use Rattle.basics.specs.Sets.{has}
 use Rattle.stores.specs.Store.{Store, in-range}
 use Rattle.model.specs.declared.table.Phase.{Phase}
 use Rattle.model.specs.declared.table.Phase.the-variants.{Open, Waiting, Ended}
-use Rattle.model.specs.Calls.{Operation, read, write, adjust, Call, begin, lock, release, access, withdraw, end, Answer, done, waiting, in-bounds, first-refusal, unless-refused}
-use Rattle.model.specs.State.{State, phase, locked, held, holder, count}
+use Rattle.model.specs.Calls.{Operation, read, write, adjust, Call, begin, lock, release, access, withdraw, end, Answer, done, waiting, in-bounds, first-refusal, or-else, unless-refused}
+use Rattle.model.specs.State.{State, phase, locked, held, holder, count, begun-count}
 
 abbrev pub is-ended : Phase → Bool
 is-ended Open = false
@@ -44,35 +44,49 @@ waits-elsewhere Open n = false
 waits-elsewhere (Waiting m) n = not (eqb (m .0) n)
 waits-elsewhere Ended n = false
 
--- every call of t: t must be begun, and not ended
-abbrev pub transaction-checks : State → ℕ → List (Bool × Refusal)
-transaction-checks s t = (leb (s .begun) t, NotBegun) ∷ (is-ended (phase s t), AlreadyEnded) ∷ []
+-- the checks of a begin: there must be room for one more
+abbrev pub begin-checks : State → List (Bool × Refusal)
+begin-checks s = (leb 32 (s .begun), TooManyTransactions) ∷ []
 
--- a lock of n by t: there must be such a node, t must wait for no other and never have locked n, and the rule must allow it
+-- of every other call: its transaction t must be begun, and not ended
+abbrev pub transaction-checks : State → ℕ → List (Bool × Refusal)
+transaction-checks s t = (leb (begun-count s) t, NotBegun) ∷ (is-ended (phase s t), AlreadyEnded) ∷ []
+
+-- of a lock: n must be a node, t must wait for no other and never have locked n, and the rule must allow it
 abbrev pub lock-checks : State → ℕ → ℕ → List (Bool × Refusal)
 lock-checks s t n =
-    (leb (count s) n, NoSuchNode) ∷ (waits-elsewhere (phase s t) n, StillWaiting)
+    transaction-checks s t
+    ++ (leb (count s) n, NoSuchNode) ∷ (waits-elsewhere (phase s t) n, StillWaiting)
     ∷ (has (locked s t) n, LockedBefore) ∷ (not (s .rule .allows n (locked s t) (held s t)), RuleDenies) ∷ []
 
--- a release or an access of n by t: there must be such a node, t must not wait, and must hold n
+-- of a release or an access: n must be a node, and t must not wait, and must hold n
 abbrev pub use-checks : State → ℕ → ℕ → List (Bool × Refusal)
 use-checks s t n =
-    (leb (count s) n, NoSuchNode) ∷ (is-waiting (phase s t), StillWaiting) ∷ (not (has (held s t) n), NotHeld) ∷ []
+    transaction-checks s t
+    ++ (leb (count s) n, NoSuchNode) ∷ (is-waiting (phase s t), StillWaiting) ∷ (not (has (held s t) n), NotHeld) ∷ []
 
--- an operation at n: the amount must be in bounds, and the new value in the range of n
+-- of an operation at n: its amount must be in bounds, and the new value in the range of n
 abbrev pub operation-checks : Store → ℕ → Operation → List (Bool × Refusal)
 operation-checks s n read = []
 operation-checks s n (write v) = (not (in-range s n v), OutOfRange) ∷ []
 operation-checks s n (adjust d) = (not (in-bounds d), AmountOutOfBounds) ∷ (not (in-range s n (s .values n +ℤ d)), OutOfRange) ∷ []
 
--- why a call is refused: all checks, in the order of looking
-abbrev pub checks : State → Call → List (Bool × Refusal)
-checks s begin = (leb 32 (s .begun), TooManyTransactions) ∷ []
-checks s (lock t n) = transaction-checks s t ++ lock-checks s t n
-checks s (release t n) = transaction-checks s t ++ use-checks s t n
-checks s (access t n op) = transaction-checks s t ++ use-checks s t n ++ operation-checks (s .store) n op
-checks s (withdraw t) = transaction-checks s t ++ (not (is-waiting (phase s t)), NotWaiting) ∷ []
-checks s (end t) = transaction-checks s t ++ (is-waiting (phase s t), StillWaiting) ∷ []
+-- of a withdraw: t must wait
+abbrev pub withdraw-checks : State → ℕ → List (Bool × Refusal)
+withdraw-checks s t = transaction-checks s t ++ (not (is-waiting (phase s t)), NotWaiting) ∷ []
+
+-- of an end: t must not wait
+abbrev pub end-checks : State → ℕ → List (Bool × Refusal)
+end-checks s t = transaction-checks s t ++ (is-waiting (phase s t), StillWaiting) ∷ []
+
+-- why a call is refused, if it is: of its checks, in the order of looking, the first that applies
+abbrev pub refusal : State → Call → Option Refusal
+refusal s begin = first-refusal (begin-checks s)
+refusal s (lock t n) = first-refusal (lock-checks s t n)
+refusal s (release t n) = first-refusal (use-checks s t n)
+refusal s (access t n op) = or-else (first-refusal (use-checks s t n)) (first-refusal (operation-checks (s .store) n op))
+refusal s (withdraw t) = first-refusal (withdraw-checks s t)
+refusal s (end t) = first-refusal (end-checks s t)
 
 -- a lock that is not refused: granted if nobody holds the node, else t waits for its holder
 abbrev pub grant-or-wait : Option TransactionNumber → Answer
@@ -96,4 +110,4 @@ unrefused s (end t) = done (pos 0)
 
 -- what a call is answered
 abbrev pub answer : State → Call → Answer
-answer s c = unless-refused (first-refusal (checks s c)) (unrefused s c)
+answer s c = unless-refused (refusal s c) (unrefused s c)

@@ -3,13 +3,15 @@ use mathlib.Core.Bool.{Bool, cond, not, _&&_}
 use mathlib.Core.List.{List, [], _∷_}
 use Prim.Native.Nat.{ℕ, zero, suc}
 use lib.Bits.{bitOr}
+use lib.Dec.{ltb}
 use Rattle.std.specs.declared.option.Option.{Option}
 use Rattle.std.specs.declared.option.Option.the-variants.{Some, None}
 use Rattle.basics.specs.declared.transaction.TransactionNumber.{TransactionNumber}
 use Rattle.basics.specs.Sets.{has, with-member, within}
 use Rattle.model.specs.declared.table.Phase.{Phase}
 use Rattle.model.specs.declared.table.Phase.the-variants.{Open, Waiting, Ended}
-use Rattle.model.specs.State.{State, phase, holder, earlier-than}
+use Rattle.model.specs.Calls.{or-else}
+use Rattle.model.specs.State.{State, phase, holder, earlier-than, begun-count}
 
 -- the set of a holder
 abbrev pub holder-set : Option TransactionNumber → ℕ
@@ -22,18 +24,13 @@ waited-for s Open = 0
 waited-for s (Waiting n) = holder-set (holder s (n .0))
 waited-for s Ended = 0
 
--- the predecessors of t: those that locked a node of t earlier, and the holder of the node that t waits for
+-- the predecessors of a begun t: those that locked a node of t before t did, and the holder of the node that t waits for
 abbrev pub predecessors : State → ℕ → ℕ
-predecessors s t = bitOr (earlier-than s t) (waited-for s (phase s t))
+predecessors s t = cond (ltb t (begun-count s)) (bitOr (earlier-than s t) (waited-for s (phase s t))) 0
 
 -- t is not placed yet, and all its predecessors are
 abbrev pub ready : (ℕ → ℕ) → ℕ → ℕ → Bool
 ready before placed t = not (has placed t) && within (before t) placed
-
--- x, or else y
-abbrev pub or-else : Option ℕ → Option ℕ → Option ℕ
-or-else None y = y
-or-else (Some x) y = Some x
 
 -- the lowest number below k that passes
 abbrev pub lowest : (ℕ → Bool) → ℕ → Option ℕ
@@ -53,4 +50,4 @@ placing before count placed (suc k) =
 
 -- all begun transactions, each time the lowest unplaced one whose predecessors are all placed
 abbrev pub serial-order : State → List ℕ
-serial-order s = placing (predecessors s) (s .begun) 0 (s .begun)
+serial-order s = placing (predecessors s) (begun-count s) 0 (begun-count s)

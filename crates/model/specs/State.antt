@@ -78,6 +78,10 @@ earlier-than s t = getD (s .earlier) t (transactions 0) .mask
 abbrev pub count : State → ℕ
 count s = min (s .rule .count) (s .store .count)
 
+-- how many transactions are begun, of the 32 that there is room for
+abbrev pub begun-count : State → ℕ
+begun-count s = min (s .begun) 32
+
 -- t waits for node n
 abbrev pub Waits : State → ℕ → ℕ → Type 0
 Waits s t n = phase s t ≡ Waiting (node n)
