@@ -9,3 +9,4 @@ pub mod Replay
 pub mod Explained
 pub mod Progress
 pub mod Consistent
+pub mod Example

@@ -2,6 +2,7 @@
 pub mod table;
 
 ghost use Rattle.model.specs.Consistent.{Every-session-consistent};
+ghost use Rattle.model.specs.Example.{Example};
 ghost use Rattle.model.specs.Explained.{Every-session-explained};
 ghost use Rattle.model.specs.Progress.{Every-session-progresses};
 
@@ -22,6 +23,13 @@ pub fn sessions_progress() -> u8
 // The tables of every session agree with one another.
 pub fn sessions_consistent() -> u8
     ensures { λ _. ⌜ Every-session-consistent ⌝ }
+{
+    0
+}
+
+// A session worked out.
+pub fn example_runs() -> u8
+    ensures { λ _. ⌜ Example ⌝ }
 {
     0
 }
