@@ -26,7 +26,7 @@ use Rattle.model.specs.History.{Access}
 use Rattle.model.specs.Replay.{replay-answer, replayed, Below}
 use Rattle.model.proofs.Members.{_∈_, Within}
 use Rattle.model.proofs.Traces.{traced-access}
-use Rattle.model.proofs.Machines.{held-locked, same-kept}
+use Rattle.model.proofs.Locking.{held-locked, same-kept}
 use Rattle.model.proofs.Replays.{right-push, replay-push}
 use Rattle.model.proofs.Phases.{none-some, same-holder, not-waiting, not-ended}
 use Rattle.model.proofs.Records.{Replaced, replaced}
@@ -63,10 +63,10 @@ module _ (first : Store) (s : State) (C : ℕ → List ℕ) (A : List Access) (i
   }
 
   -- an access of a node by its holder, as in the replay
-  pub stored-kept : (t n : ℕ) (d : Operation) (a : Answer) (store : Store) → n ∈ held s t
+  pub access-kept : (t n : ℕ) (d : Operation) (a : Answer) (store : Store) → n ∈ held s t
       → replay-answer (s .store) n d ≡ a → replayed (s .store) n d ≡ store → store .count ≡ s .store .count
       → Inv first (with-store s store) C (A ++ (record { by = t; node = n; operation = d; answer = a } ∷ []))
-  stored-kept t n d a store h e z c =
+  access-kept t n d a store h e z c =
       let x : Access = record { by = t; node = n; operation = d; answer = a } in
       let (xs, q) = i .kept .held-last n t h in
       record {
@@ -74,7 +74,7 @@ module _ (first : Store) (s : State) (C : ℕ → List ℕ) (A : List Access) (i
         kept = same-kept _∈_ (May (s .rule)) (meeting (s .rule)) (view s C (i .entry) A) (i .kept) _
             (record { lockers = λ m. refl; entry = λ u. refl; locked = λ u. refl })
             (λ m u b. b)
-            (traced-access C A (i .kept .traced) x xs q (i .kept .sound .distinct n));
+            (traced-access C A (i .kept .traced) x xs q (i .kept .descending .distinct n));
         few = i .few;
         long-records = i .long-records;
         long-holders = i .long-holders;
@@ -148,9 +148,9 @@ module _ (first : Store) (s : State) (C : ℕ → List ℕ) (A : List Access) (i
         }
 
     -- t with-phase otherwise
-    pub stands-kept : (p : Phase) → ((n : ℕ) → p ≡ Waiting (node n) → (n ∈ locked s t → ⊥) × May (s .rule) n (locked s t) (held s t) × (n < count s))
+    pub phase-kept : (p : Phase) → ((n : ℕ) → p ≡ Waiting (node n) → (n ∈ locked s t → ⊥) × May (s .rule) n (locked s t) (held s t) × (n < count s))
         → is-ended p ≡ false → Inv first (with-phase s t p) C A
-    stands-kept p asks live =
+    phase-kept p asks live =
         let r : Record = record { phase = p; locked = nodes (locked s t); held = nodes (held s t) } in
         changed-kept r (s .holders) refl (λ m b. b) (i .long-holders) (i .small t)
         (λ m u. elim (cases-eq u t) [

@@ -1,4 +1,4 @@
--- What holds of a session says that its tables agree.
+-- What holds of a session says that its tables agree with one another and with its history.
 use mathlib.Core.List.{List}
 use native.Mathlib.Omega.{arith}
 use Rattle.basics.proofs.Masks.{within-members, has-empty}
@@ -9,12 +9,12 @@ use Rattle.model.specs.Step.{session}
 use Rattle.model.specs.History.{lockers-of, accesses}
 use Rattle.model.specs.Consistent.{Consistent, Every-session-consistent}
 use Rattle.model.proofs.Members.{_∈_, lacks}
-use Rattle.model.proofs.Machines.{held-locked}
+use Rattle.model.proofs.Locking.{held-locked}
 use Rattle.model.proofs.Inv.{May, meeting, view, Inv}
 use Rattle.model.proofs.Steps.{every-run}
 use Rattle.model.proofs.Explains.{holder-begun}
 
-consistent : (first : Store) (h : List Event) (s : State) → Inv first s (lockers-of h) (accesses h) → Consistent s
+consistent : (first : Store) (h : List Event) (s : State) → Inv first s (lockers-of h) (accesses h) → Consistent h s
 consistent first h s i = record {
   few = i .few;
   long-records = i .long-records;
@@ -23,11 +23,15 @@ consistent first h s i = record {
   long-earlier = i .long-earlier;
   holds = λ u n. i .holder-is n u;
   begun-holder = λ u n e. holder-begun first h s i n u e;
+  last-locker = λ u n e. i .kept .held-last n u (i .holder-is n u .0 e);
   held-locked = λ t. within-members (held s t) (locked s t) .1 (λ n b.
       held-locked _∈_ (May (s .rule)) (meeting (s .rule)) (view s (lockers-of h) (i .entry) (accesses h)) (i .kept) n t b);
-  begun-locker = λ t l. has-empty (locked s t) (λ n. lacks (locked s t) n (λ b. omega (arith, l, i .begun-is n t (i .kept .locked-is n t .0 b))));
-  ended-free = i .spent;
+  unbegun-empty = λ t l. has-empty (locked s t) (λ n. lacks (locked s t) n (λ b. omega (arith, l, i .begun-is n t (i .kept .locked-is n t .0 b))));
+  ended-empty = i .spent;
   waits-new = λ t n w. let (b, f, m, c) = i .asks t n w in (b, c, f);
+  locked-is = λ t n. i .kept .locked-is n t;
+  lockers-is = λ t n. i .lockers-is n t;
+  earlier-is = λ u t. i .earlier-is t u;
 }
 
 pub every-session-consistent : Every-session-consistent

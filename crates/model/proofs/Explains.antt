@@ -28,7 +28,7 @@ use Rattle.model.proofs.Lists.{before-left, before-right, before-trans, before
 use Rattle.model.proofs.Members.{_∈_, lacks}
 use Rattle.model.proofs.Traces.{at-node, same-by-one}
 use Rattle.model.proofs.Views.{View, Asks}
-use Rattle.model.proofs.Machines.{held-locked}
+use Rattle.model.proofs.Locking.{held-locked}
 use Rattle.model.proofs.Queues.{minimal-of-all}
 use Rattle.model.proofs.Placing.{Placed, all-placed}
 use Rattle.model.proofs.Replays.{right-answers, right-over, values-over}
@@ -57,19 +57,19 @@ module _ (first : Store) (h : List Event) (s : State) (i : Inv first s (lockers-
   pub holder-begun : (n u : ℕ) → Holds s u n → u < s .begun
   holder-begun n u e = i .begun-is n u (i .kept .locked-is n u .0 (holder-locked n u e))
 
-  way-is : (p : Phase) (u : ℕ) → (u ∈ waited-for s p) ↔ ((n : ℕ) × (p ≡ Waiting (node n)) × Holds s u n)
-  way-is Open u = (λ b. absurd (no-member u b), λ (n, w, e). absurd (not-waiting Open (node n) refl w))
-  way-is (Waiting m) u = (
+  waited-for-is : (p : Phase) (u : ℕ) → (u ∈ waited-for s p) ↔ ((n : ℕ) × (p ≡ Waiting (node n)) × Holds s u n)
+  waited-for-is Open u = (λ b. absurd (no-member u b), λ (n, w, e). absurd (not-waiting Open (node n) refl w))
+  waited-for-is (Waiting m) u = (
     λ b. (m .0, refl, holder-set-is (holder s (m .0)) u b),
     λ (n, w, e). in-holder-set (holder s (m .0)) u (omega (arith, holder-begun n u e, i .few)) (ap (holder s) (same-node (Waiting m) (m .0) n refl w) ∙ e),
   )
-  way-is Ended u = (λ b. absurd (no-member u b), λ (n, w, e). absurd (not-waiting Ended (node n) refl w))
+  waited-for-is Ended u = (λ b. absurd (no-member u b), λ (n, w, e). absurd (not-waiting Ended (node n) refl w))
 
   waiting-apart : (t n u : ℕ) → Waits s t n → Holds s u n → u ≡ t → ⊥
   waiting-apart t n u w e q = i .asks t n w .1 (rw q at (holder-locked n u e))
 
   lockers-apart : (n u t : ℕ) → Before u t (lockers-of h n) → u ≡ t → ⊥
-  lockers-apart n u t b q = before-irrefl (lockers-of h n) t (i .kept .sound .distinct n) (rw q at b)
+  lockers-apart n u t b q = before-irrefl (lockers-of h n) t (i .kept .descending .distinct n) (rw q at b)
 
   precedes-begun : (u t : ℕ) → Precedes h s u t → (u < s .begun) × (t < s .begun)
   precedes-begun u t p = elim (p .1) [
@@ -81,11 +81,11 @@ module _ (first : Store) (h : List Event) (s : State) (i : Inv first s (lockers-
   reported u t = (
     λ b. elim (or-members (earlier-than s t) (waited-for s (phase s t)) u .0 b) [
       | inl c ↦ let (n, d) = i .earlier-is t u .0 c in (lockers-apart n u t d, inl (n, d))
-      | inr c ↦ let (n, w, e) = way-is (phase s t) u .0 c in (waiting-apart t n u w e, inr (n, w, e))
+      | inr c ↦ let (n, w, e) = waited-for-is (phase s t) u .0 c in (waiting-apart t n u w e, inr (n, w, e))
     ],
     λ p. or-members (earlier-than s t) (waited-for s (phase s t)) u .1 (elim (p .1) [
       | inl c ↦ inl (i .earlier-is t u .1 c)
-      | inr c ↦ inr (way-is (phase s t) u .1 c)
+      | inr c ↦ inr (waited-for-is (phase s t) u .1 c)
     ]),
   )
 
@@ -127,7 +127,7 @@ module _ (first : Store) (h : List Event) (s : State) (i : Inv first s (lockers-
 
   -- at each node the serial order has the same accesses, in the same order
   same : (n : ℕ) → at-node n (serial (serial-order s) (accesses h)) ≡ at-node n (accesses h)
-  same n = same-by-one (lockers-of h) (accesses h) (i .kept .traced) (serial-order s) n (placed .once) (i .kept .sound .distinct n)
+  same n = same-by-one (lockers-of h) (accesses h) (i .kept .traced) (serial-order s) n (placed .once) (i .kept .descending .distinct n)
       (λ u j. placed .all u (i .begun-is n u j) (no-member u))
       (λ u w b c. before-irrefl (serial-order s) w (placed .once)
       (before-trans (serial-order s) w u w (placed .once) b (follows u w (lockers-apart n u w c, inl (n, c)))))

@@ -23,16 +23,16 @@ use Rattle.model.specs.Step.{granted}
 use Rattle.model.specs.History.{Access}
 use Rattle.model.proofs.Members.{_∈_}
 use Rattle.model.proofs.Views.{Granted}
-use Rattle.model.proofs.Machines.{granted-kept}
+use Rattle.model.proofs.Locking.{granted-kept}
 use Rattle.model.proofs.Phases.{none-some, same-holder, not-waiting, not-ended}
 use Rattle.model.proofs.Records.{Replaced, replaced}
 use Rattle.model.proofs.Pushes.{in-pushed, before-pushed}
 use Rattle.model.proofs.Inv.{May, meeting, view, Asking, Inv}
 
 -- one mask gets one element more
-insert-one : (w : ℕ) (f f′ : ℕ → ℕ) (n t : ℕ) → n < w → ((u : ℕ) → u ≡ t → f′ u ≡ with-member w (f t) n) → ((u : ℕ) → (u ≡ t → ⊥) → f′ u ≡ f u)
+one-more-member : (w : ℕ) (f f′ : ℕ → ℕ) (n t : ℕ) → n < w → ((u : ℕ) → u ≡ t → f′ u ≡ with-member w (f t) n) → ((u : ℕ) → (u ≡ t → ⊥) → f′ u ≡ f u)
     → (m u : ℕ) → (m ∈ f′ u) ↔ ((m ∈ f u) ⊎ ((m ≡ n) × (u ≡ t)))
-insert-one w f f′ n t l here there m u = elim (cases-eq u t) [
+one-more-member w f f′ n t l here there m u = elim (cases-eq u t) [
   | inl q ↦ rw (here u q, q) (
     λ b. elim (with-members w (f t) n m l .0 b) [ inl c ↦ inl c | inr z ↦ inr (z, refl) ],
     λ b. with-members w (f t) n m l .1 (elim b [ inl c ↦ inl c | inr z ↦ inr (z .0) ]),
@@ -74,11 +74,11 @@ module _ (first : Store) (s : State) (C C′ : ℕ → List ℕ) (A : List Acces
 
   locks : (m u : ℕ) → (m ∈ locked (granted s t n) u) ↔ ((m ∈ locked s u) ⊎ ((m ≡ n) × (u ≡ t)))
   unfolding r
-  locks = insert-one 64 (locked s) (locked (granted s t n)) n t few (rep .locked-here) (rep .locked-there)
+  locks = one-more-member 64 (locked s) (locked (granted s t n)) n t few (rep .locked-here) (rep .locked-there)
 
   holds : (m u : ℕ) → (m ∈ held (granted s t n) u) ↔ ((m ∈ held s u) ⊎ ((m ≡ n) × (u ≡ t)))
   unfolding r
-  holds = insert-one 64 (held s) (held (granted s t n)) n t few (rep .held-here) (rep .held-there)
+  holds = one-more-member 64 (held s) (held (granted s t n)) n t few (rep .held-here) (rep .held-there)
 
   nobody : (u : ℕ) → n ∈ held s u → ⊥
   nobody u b = none-some (holder s n) (transaction u) free (i .holder-is n u .1 b)
@@ -125,7 +125,7 @@ module _ (first : Store) (s : State) (C C′ : ℕ → List ℕ) (A : List Acces
   )
     where
       added : (u m : ℕ) → (u ∈ lockers-at (granted s t n) m) ↔ ((u ∈ lockers-at s m) ⊎ ((u ≡ t) × (m ≡ n)))
-      added = insert-one 32 (lockers-at s) (lockers-at (granted s t n)) t n (omega (arith, l, i .few))
+      added = one-more-member 32 (lockers-at s) (lockers-at (granted s t n)) t n (omega (arith, l, i .few))
           (mask-here (s .lockers) n _ (omega (arith, few, i .long-lockers)))
           (mask-there (s .lockers) n _)
 

@@ -21,7 +21,7 @@ use Rattle.model.specs.History.{Access}
 use Rattle.model.specs.Replay.{Below, replay}
 use Rattle.model.proofs.Members.{_∈_}
 use Rattle.model.proofs.Views.{View, Rooted, Meeting, Kept}
-use Rattle.model.proofs.Machines.{start-kept}
+use Rattle.model.proofs.Locking.{start-kept}
 use Rattle.model.proofs.Replays.{Right}
 
 -- the rule lets a transaction lock n

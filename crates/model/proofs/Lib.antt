@@ -3,11 +3,11 @@ pub mod Members
 pub mod Minimal
 pub mod Traces
 pub mod Views
-pub mod Machines
+pub mod Locking
 pub mod Queues
 pub mod Placing
 pub mod Replays
-pub mod Judging
+pub mod Refusing
 pub mod Phases
 pub mod Records
 pub mod Pushes

@@ -1,4 +1,5 @@
--- Lists of transactions by node: among any transactions there is one that none of them precedes.
+-- The heart of the serial order, over any lists of transactions, one list to a node, and any first node of each:
+-- every non-empty set of transactions has a member that no other precedes at any node.
 use mathlib.Core.Path.{_≡_, refl, ap}
 use mathlib.Core.List.{List, [], _∷_}
 use mathlib.Core.Logic.{_⊎_, inl, inr}
@@ -9,8 +10,9 @@ use Rattle.std.proofs.shelf.Tests.{cases-lt}
 use Rattle.model.specs.Lists.{In, Before, Distinct}
 use Rattle.model.proofs.Lists.{before-left, before-right, before-trans, before-irrefl, dec-before}
 
--- C n is who locked the node n, in order; e t is the first node that t locked
-pub record Sound (C : ℕ → List ℕ) (e : ℕ → ℕ) : Type 0 where
+-- C n lists transactions in the order of node n, and e t is the first node of t: none stands twice, none stands below
+-- its first node, and who precedes another at a node that is the first of neither precedes it at a lower node too
+pub record Descending (C : ℕ → List ℕ) (e : ℕ → ℕ) : Type 0 where
   pub distinct : (n : ℕ) → Distinct (C n)
   pub entered : (n t : ℕ) → In t (C n) → e t ≤ n
   pub lower : (n u t : ℕ) → Before u t (C n) → (n ≡ e u) ⊎ ((n ≡ e t) ⊎ ((p : ℕ) × (p < n) × Before u t (C p)))
@@ -57,11 +59,11 @@ largest e x (y ∷ ys) = step (largest e y ys) (cases-lt (e x) (e (largest e y y
       back = λ u i. inr i;
     }
 
--- one of U that nobody of U precedes at any node
+-- a member of U that no member of U precedes at any node
 abbrev pub Minimal : (ℕ → List ℕ) → List ℕ → Type 0
 Minimal C U = (w : ℕ) × In w U × ((u n : ℕ) → In u U → Before u w (C n) → ⊥)
 
-module _ (C : ℕ → List ℕ) (e : ℕ → ℕ) (s : Sound C e) where
+module _ (C : ℕ → List ℕ) (e : ℕ → ℕ) (s : Descending C e) where
   at-node : (u t m n : ℕ) → m ≡ n → Before u t (C m) → Before u t (C n)
   at-node u t m n q b = rw (← q) b
 
@@ -107,5 +109,5 @@ module _ (C : ℕ → List ℕ) (e : ℕ → ℕ) (s : Sound C e) where
       from l [] q below = (l .top, l .its, λ u n j c. elim (l .out u j) [ inl p ↦ before-irrefl (C n) (l .top) (s .distinct n) (rw p at c) | inr i ↦ absurd (rw q at i) ])
       from l (r ∷ rs) q below = from-rest x xs l (rw q (below r rs (omega (arith, l .long, ap length q))))
 
-pub minimal-exists : (C : ℕ → List ℕ) (e : ℕ → ℕ) → Sound C e → (x : ℕ) (xs : List ℕ) → Minimal C (x ∷ xs)
+pub minimal-exists : (C : ℕ → List ℕ) (e : ℕ → ℕ) → Descending C e → (x : ℕ) (xs : List ℕ) → Minimal C (x ∷ xs)
 minimal-exists C e s x xs = least C e s (length (x ∷ xs)) x xs (omega arith)

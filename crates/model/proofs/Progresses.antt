@@ -20,7 +20,7 @@ use Rattle.model.specs.Explained.{Explained}
 use Rattle.model.specs.Progress.{Deadlock, Standstill, Progress, Every-session-progresses}
 use Rattle.model.proofs.Lists.{before-right}
 use Rattle.model.proofs.Members.{lacks}
-use Rattle.model.proofs.Judging.{judged-passed}
+use Rattle.model.proofs.Refusing.{none-applies}
 use Rattle.model.proofs.Inv.{Inv}
 use Rattle.model.proofs.Steps.{every-run}
 use Rattle.model.proofs.Waiters.{waiters, want, waiters-wait, is-waiter, free-or-held}
@@ -49,7 +49,7 @@ module _ (first : Store) (h : List Event) (s : State) (i : Inv first s (lockers-
   again : (t n : ℕ) → Waits s t n → answer s (lock t n) ≡ grant-or-wait (holder s n)
   again t n w =
       let (l, f, m, c) = i .asks t n w in
-      judged-passed (lock-checks s t n) (grant-or-wait (holder s n)) (
+      none-applies (lock-checks s t n) (grant-or-wait (holder s n)) (
         lt-leb (begun-count s) t (omega (arith, l, i .few)),
         (ap is-ended w, (lt-leb (count s) n c, (ap (λ p. waits-elsewhere p n) w ∙ ap not (eq-eqb n n refl), (lacks (locked s t) n f, (ap not m, tt))))),
       )

@@ -1,4 +1,4 @@
--- Those that wait join the lockers: the lists stay sound.
+-- Those that wait join the lockers of their nodes, and of any transactions one is preceded by none of them.
 use mathlib.Core.Path.{_≡_, refl}
 use mathlib.Core.List.{List, _∷_, _++_}
 use mathlib.Core.Logic.{_⊎_, inl, inr}
@@ -10,7 +10,7 @@ use Rattle.model.specs.Lists.{In, Before, Distinct}
 use Rattle.model.proofs.Lists.{in-last, dec-in, before-keep, before-across, distinct-append, distinct-kept-by, in-kept-by, kept-by-in}
 use Rattle.model.proofs.Minimal.{minimal-exists}
 use Rattle.model.proofs.Views.{View, Meeting, Allowed, Asks, Kept, Waiting}
-use Rattle.model.proofs.Machines.{waiting-sound}
+use Rattle.model.proofs.Locking.{waiting-descending}
 
 module _ {S : Type 0} (_∈_ : ℕ → S → Type 0) (may : ℕ → S → S → Type 0) (meeting : Meeting _∈_ may) (s : View S) (k : Kept _∈_ may s)
     (U : List ℕ) (want : ℕ → ℕ) (asks : (t : ℕ) → In t U → Asks _∈_ may s (want t) t) where
@@ -55,7 +55,7 @@ module _ {S : Type 0} (_∈_ : ℕ → S → Type 0) (may : ℕ → S → S → 
     waiting : Waiting _∈_ may s queue (λ t. entry-of t (dec-in t U))
     unfolding queue
     waiting = record {
-      distinct = λ n. distinct-append (s .lockers n) (queue n) (k .sound .distinct n) (distinct-kept-by _ U distinct)
+      distinct = λ n. distinct-append (s .lockers n) (queue n) (k .descending .distinct n) (distinct-kept-by _ U distinct)
           (λ u i j. let (l, q) = in-queue n u j in new u l (rw q i));
       allowed = λ n t i. let (l, q) = in-queue n t i in rw (← q) (entry-allowed t (dec-in t U) l);
       entries = λ n u i. entry-old n u (dec-in u U) i;
@@ -72,7 +72,7 @@ module _ {S : Type 0} (_∈_ : ℕ → S → Type 0) (may : ℕ → S → S → 
         × ((u n : ℕ) → In u (x ∷ xs) → Before u w (s .lockers n) → ⊥)
         × ((u : ℕ) → In u (x ∷ xs) → In w U → want w ∈ s .held u → ⊥)
     minimal-of-all x xs =
-        let (w, i, least) = minimal-exists _ _ (waiting-sound _∈_ may meeting s k _ _ waiting) x xs in (
+        let (w, i, least) = minimal-exists _ _ (waiting-descending _∈_ may meeting s k _ _ waiting) x xs in (
           w,
           i,
           λ u n j b. least u n j (before-keep (s .lockers n) (queue n) u w b),

@@ -23,10 +23,10 @@ use Rattle.model.specs.Step.{performed, after, with-store, Run, step, run, ses
 use Rattle.model.specs.History.{Access, of-operation, accessed, accesses, grants-of, lockers-of}
 use Rattle.model.specs.Replay.{written, replay-answer, replayed}
 use Rattle.model.proofs.Members.{_∈_}
-use Rattle.model.proofs.Judging.{or-else-append, Cases, Passed, judged-cases, alike-cases}
+use Rattle.model.proofs.Refusing.{or-else-append, Cases, Passed, refused-cases, alike-cases}
 use Rattle.model.proofs.Phases.{not-waiting, same-node}
 use Rattle.model.proofs.Inv.{Asking, Inv, start-inv}
-use Rattle.model.proofs.Changes.{begun-kept, stored-kept, stands-kept, released-kept, ended-kept}
+use Rattle.model.proofs.Changes.{begun-kept, access-kept, phase-kept, released-kept, ended-kept}
 use Rattle.model.proofs.Grants.{granted-inv}
 
 lockers-push : (h : List Event) (e : Event) (n : ℕ) → lockers-of (h ++ (e ∷ [])) n ≡ lockers-of h n ++ grants-of (e .call) (e .answer) n
@@ -46,10 +46,10 @@ written-put s n v h = rw (lt-ltb n (s .count) h) refl
 put-count : (s : Store) (n : ℕ) (v : ℤ) → put s n v .count ≡ s .count
 put-count s n v = cond-both (ltb n (s .count) && in-range s n v) (set-value s n v) s (λ x. x .count ≡ s .count) (λ e. refl) (λ e. refl)
 
-put-by-count : (s : Store) (n : ℕ) (d : Operation) → performed s n d .count ≡ s .count
-put-by-count s n read = refl
-put-by-count s n (write v) = put-count s n v
-put-by-count s n (adjust d) = put-count s n (s .values n +ℤ d)
+performed-count : (s : Store) (n : ℕ) (d : Operation) → performed s n d .count ≡ s .count
+performed-count s n read = refl
+performed-count s n (write v) = put-count s n v
+performed-count s n (adjust d) = put-count s n (s .values n +ℤ d)
 
 -- what holds of a run
 abbrev pub Holding : Store → Run → Type 0
@@ -95,27 +95,27 @@ module _ (first : Store) (r : Run) (i : Holding first r) where
   refuses c k e = quiet c (refused k) (none-granted c k) e here
 
   -- a call other than an access is unless-refused
-  judges : (c : Call) (cs : List (Bool × Refusal)) → ((k : Refusal) → accessed c (refused k) ≡ [])
+  unless-any : (c : Call) (cs : List (Bool × Refusal)) → ((k : Refusal) → accessed c (refused k) ≡ [])
       → (Passed cs → Next c (unrefused (r .state) c)) → Next c (unless-refused (first-refusal cs) (unrefused (r .state) c))
-  judges c cs e f = judged-cases (Next c) cs (unrefused (r .state) c) (alike-cases (Next c) cs (unrefused (r .state) c) (λ k. refuses c k (e k)) f)
+  unless-any c cs e f = refused-cases (Next c) cs (unrefused (r .state) c) (alike-cases (Next c) cs (unrefused (r .state) c) (λ k. refuses c k (e k)) f)
 
   begins : Next begin (answer (r .state) begin)
-  begins = judges begin (begin-checks (r .state)) (λ k. refl) (λ p. quiet begin _ (λ n. refl) refl (begun-kept first (r .state) C A here (leb-false 32 _ (p .0))))
+  begins = unless-any begin (begin-checks (r .state)) (λ k. refl) (λ p. quiet begin _ (λ n. refl) refl (begun-kept first (r .state) C A here (leb-false 32 _ (p .0))))
 
   module _ (t : ℕ) where
     withdraws : Next (withdraw t) (answer (r .state) (withdraw t))
-    withdraws = judges (withdraw t) (withdraw-checks (r .state) t) (λ k. refl) (λ p. quiet (withdraw t) _ (λ n. refl) refl
-        (stands-kept first (r .state) C A here t (omega (arith, leb-false (begun-count (r .state)) t (p .0))) Open (λ n w. absurd (not-waiting Open (node n) refl w)) refl))
+    withdraws = unless-any (withdraw t) (withdraw-checks (r .state) t) (λ k. refl) (λ p. quiet (withdraw t) _ (λ n. refl) refl
+        (phase-kept first (r .state) C A here t (omega (arith, leb-false (begun-count (r .state)) t (p .0))) Open (λ n w. absurd (not-waiting Open (node n) refl w)) refl))
 
     ends : Next (end t) (answer (r .state) (end t))
-    ends = judges (end t) (end-checks (r .state) t) (λ k. refl) (λ p. quiet (end t) _ (λ n. refl) refl (ended-kept first (r .state) C A here t (omega (arith, leb-false (begun-count (r .state)) t (p .0)))))
+    ends = unless-any (end t) (end-checks (r .state) t) (λ k. refl) (λ p. quiet (end t) _ (λ n. refl) refl (ended-kept first (r .state) C A here t (omega (arith, leb-false (begun-count (r .state)) t (p .0)))))
 
     module _ (n : ℕ) where
       few : leb (count (r .state)) n ≡ false → n < 64
       few e = omega (arith, leb-false (count (r .state)) n e, r .state .rule .few)
 
       releases : Next (release t n) (answer (r .state) (release t n))
-      releases = judges (release t n) (use-checks (r .state) t n) (λ k. refl) (λ p. quiet (release t n) _ (λ m. refl) refl
+      releases = unless-any (release t n) (use-checks (r .state) t n) (λ k. refl) (λ p. quiet (release t n) _ (λ m. refl) refl
           (released-kept first (r .state) C A here t (omega (arith, leb-false (begun-count (r .state)) t (p .0))) n (few (p .1 .1 .0))
           (not-false _ (p .1 .1 .1 .1 .0)) (p .1 .1 .1 .0) (p .1 .0)))
 
@@ -125,11 +125,11 @@ module _ (first : Store) (r : Run) (i : Holding first r) where
             → replayed (r .state .store) n d ≡ store → store .count ≡ r .state .store .count → Next (access t n d) a
         notes d a store b q e z same = logged (access t n d) a _ (λ m. refl) b
             (subst⁻¹ (λ (x : State). Inv first x C (A ++ (record { by = t; node = n; operation = d; answer = a } ∷ []))) q
-            (stored-kept first (r .state) C A here t n d a store h e z same))
+            (access-kept first (r .state) C A here t n d a store h e z same))
 
         does : (d : Operation) → replay-answer (r .state .store) n d ≡ done (result (r .state .store) n d)
             → replayed (r .state .store) n d ≡ performed (r .state .store) n d → Next (access t n d) (done (result (r .state .store) n d))
-        does d e z = notes d (done (result (r .state .store) n d)) (performed (r .state .store) n d) refl refl e z (put-by-count (r .state .store) n d)
+        does d e z = notes d (done (result (r .state .store) n d)) (performed (r .state .store) n d) refl refl e z (performed-count (r .state .store) n d)
 
         misses : (d : Operation) (k : Refusal) → of-operation k ≡ true → replay-answer (r .state .store) n d ≡ refused k
             → replayed (r .state .store) n d ≡ r .state .store → Next (access t n d) (refused k)
@@ -154,7 +154,7 @@ module _ (first : Store) (r : Run) (i : Holding first r) where
       accesses-node d =
           let no : (k : Refusal) → accessed (access t n d) (refused k) ≡ [] → Next (access t n d) (refused k) = refuses (access t n d) in
           rw (or-else-append (use-checks (r .state) t n) (operation-checks (r .state .store) n d))
-          (judged-cases (Next (access t n d)) (use-checks (r .state) t n ++ operation-checks (r .state .store) n d) (unrefused (r .state) (access t n d)) (
+          (refused-cases (Next (access t n d)) (use-checks (r .state) t n ++ operation-checks (r .state .store) n d) (unrefused (r .state) (access t n d)) (
             λ e. no NotBegun refl,
             λ e. (
               λ e. no AlreadyEnded refl,
@@ -183,11 +183,11 @@ module _ (first : Store) (r : Run) (i : Holding first r) where
           (λ m f. lockers-push (r .log) ev m ∙ ap (λ b. C m ++ cond b (t ∷ []) []) (ne-eqb n m (λ q. f (sym q))) ∙ append-nil (C m)))
       locking l below asking (Some u) e =
           quiet (lock t n) (waiting (u .0)) (λ m. refl) refl
-          (stands-kept first (r .state) C A here t l (Waiting (node n))
+          (phase-kept first (r .state) C A here t l (Waiting (node n))
           (λ m w. let q : n ≡ m = same-node (Waiting (node n)) n m refl w in rw (← q) (asking .1, asking .2, asking .3)) refl)
 
       locks : Next (lock t n) (answer (r .state) (lock t n))
-      locks = judges (lock t n) (lock-checks (r .state) t n) (λ k. refl) (λ p.
+      locks = unless-any (lock t n) (lock-checks (r .state) t n) (λ k. refl) (λ p.
           let l : t < r .state .begun = omega (arith, leb-false (begun-count (r .state)) t (p .0)) in
           locking l (few (p .1 .1 .0))
           (l, both-ways (has (locked (r .state) t) n) (p .1 .1 .1 .1 .0), not-false _ (p .1 .1 .1 .1 .1 .0), leb-false _ n (p .1 .1 .0))

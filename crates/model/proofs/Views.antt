@@ -6,7 +6,7 @@ use mathlib.Core.Logic.{_⊎_, _↔_}
 use Prim.Native.Nat.{ℕ, _<_}
 use Rattle.model.specs.Lists.{In, Distinct}
 use Rattle.model.specs.History.{Access}
-use Rattle.model.proofs.Minimal.{Sound}
+use Rattle.model.proofs.Minimal.{Descending}
 use Rattle.model.proofs.Traces.{Traced}
 
 -- who locked each node, the first node of each transaction, what it ever locked and still holds, and all accesses
@@ -70,7 +70,7 @@ module _ {S : Type 0} (_∈_ : ℕ → S → Type 0) where
 
     -- what every call keeps
     pub record Kept (s : View S) : Type 0 where
-      pub sound : Sound (s .lockers) (s .entry)
+      pub descending : Descending (s .lockers) (s .entry)
       pub locked-is : (n t : ℕ) → (n ∈ s .locked t) ↔ In t (s .lockers n)
       pub held-last : (n t : ℕ) → n ∈ s .held t → (xs : List ℕ) × (s .lockers n ≡ xs ++ (t ∷ []))
       pub reason : (n u : ℕ) → In u (s .lockers n) → (n ≡ s .entry u) ⊎ Reason n (s .locked u)

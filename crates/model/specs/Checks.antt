@@ -28,11 +28,13 @@ use Rattle.model.specs.declared.table.Phase.the-variants.{Open, Waiting, Ended
 use Rattle.model.specs.Calls.{Operation, read, write, adjust, Call, begin, lock, release, access, withdraw, end, Answer, done, waiting, in-bounds, first-refusal, or-else, unless-refused}
 use Rattle.model.specs.State.{State, phase, locked, held, holder, count, begun-count}
 
+-- it is ended
 abbrev pub is-ended : Phase → Bool
 is-ended Open = false
 is-ended (Waiting n) = false
 is-ended Ended = true
 
+-- it waits for a node
 abbrev pub is-waiting : Phase → Bool
 is-waiting Open = false
 is-waiting (Waiting n) = true

@@ -24,6 +24,7 @@ root-of n = cond (eqb n 1 || eqb n 2) 1 0
 abbrev pub by-root : ℕ → ℕ → ℕ → Bool
 by-root n locked held = ltb n 3 && (eqb locked 0 || (not (eqb n 0) && has held 0))
 
+-- the laws of this rule
 pub root-lower : (n p : ℕ) → has (root-of n) p ≡ true → p < n
 root-lower n p h = elim (cases-bool (eqb n 1 || eqb n 2)) [
   | inl e ↦
@@ -79,6 +80,7 @@ page = record {
   high = λ n. cond (ltb n 3) (pos 127) (pos 0);
 }
 
+-- the calls, in order
 abbrev pub calls : List Call
 calls =
     begin ∷ begin

@@ -35,6 +35,7 @@ pub record Access : Type 0 where
   pub operation : Operation
   pub answer : Answer
 
+-- two refusals are one and the same
 abbrev pub same-refusal : Refusal → Refusal → Bool
 same-refusal k l = eqb (code-of k) (code-of l)
 

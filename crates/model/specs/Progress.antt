@@ -21,6 +21,7 @@ Deadlock s ts = (t : ℕ) → In t ts → (n : ℕ) × (u : ℕ) × Waits s t n 
 abbrev pub Standstill : State → Type 0
 Standstill s = (t : ℕ) → t < s .begun → (phase s t ≡ Ended) ⊎ ((n : ℕ) × Waits s t n)
 
+-- why a session s goes on
 pub record Progress (s : State) : Type 0 where
   -- a waiting lock that is tried again is never refused
   pub again : (t n : ℕ) → Waits s t n → answer s (lock t n) ≡ grant-or-wait (holder s n)

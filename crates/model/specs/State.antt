@@ -15,6 +15,7 @@ use Rattle.model.specs.declared.table.Phase.{Phase}
 use Rattle.model.specs.declared.table.Phase.the-variants.{Open, Waiting}
 use Rattle.model.specs.declared.table.Record.{Record}
 
+-- a session as its arrays hold it
 pub record State : Type 0 where
   -- how many transactions are begun: those below this number
   pub begun : ℕ
@@ -26,12 +27,15 @@ pub record State : Type 0 where
   pub lockers : List TransactionSet
   -- of each of 32 transactions, those that locked one of its nodes before it did
   pub earlier : List TransactionSet
+  -- the rule that it asks, and the store that it reads and writes
   pub rule : Rule
   pub store : Store
 
+-- the node of a number
 abbrev pub node : ℕ → NodeNumber
 node n = record { 0 = n }
 
+-- the transaction of a number
 abbrev pub transaction : ℕ → TransactionNumber
 transaction t = record { 0 = t }
 
@@ -47,6 +51,7 @@ transactions m = record { mask = m }
 abbrev pub blank : Record
 blank = record { phase = Open; locked = nodes 0; held = nodes 0 }
 
+-- what the session keeps of t
 abbrev pub record-of : State → ℕ → Record
 record-of s t = getD (s .records) t blank
 

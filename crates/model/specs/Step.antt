@@ -84,6 +84,7 @@ performed s n read = s
 performed s n (write v) = put s n v
 performed s n (adjust d) = put s n (s .values n +ℤ d)
 
+-- the session has this store
 abbrev pub with-store : State → Store → State
 with-store s store = record {
   begun = s .begun;

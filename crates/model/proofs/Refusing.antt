@@ -1,4 +1,4 @@
--- A call that is judged: refused by a check that applies, or passed by all.
+-- A call is refused by the first check that applies, or none applies.
 use mathlib.Core.Path.{_≡_, refl, _∙_, ap}
 use mathlib.Core.Bool.{Bool, true, false}
 use mathlib.Core.List.{List, [], _∷_, _++_}
@@ -18,9 +18,9 @@ abbrev pub Passed : List (Bool × Refusal) → Type 0
 Passed [] = Unit {0}
 Passed (c ∷ cs) = (c .0 ≡ false) × Passed cs
 
-pub judged-cases : (P : Answer → Type 0) (cs : List (Bool × Refusal)) (a : Answer) → Cases P cs a → P (unless-refused (first-refusal cs) a)
-judged-cases P [] a p = p
-judged-cases P (c ∷ cs) a p = cond-both (c .0) (Some (c .1)) (first-refusal cs) (λ o. P (unless-refused o a)) (p .0) (λ e. judged-cases P cs a (p .1 e))
+pub refused-cases : (P : Answer → Type 0) (cs : List (Bool × Refusal)) (a : Answer) → Cases P cs a → P (unless-refused (first-refusal cs) a)
+refused-cases P [] a p = p
+refused-cases P (c ∷ cs) a p = cond-both (c .0) (Some (c .1)) (first-refusal cs) (λ o. P (unless-refused o a)) (p .0) (λ e. refused-cases P cs a (p .1 e))
 
 -- checks in two parts
 pub or-else-append : (cs ds : List (Bool × Refusal)) → or-else (first-refusal cs) (first-refusal ds) ≡ first-refusal (cs ++ ds)
@@ -32,6 +32,6 @@ pub alike-cases : (P : Answer → Type 0) (cs : List (Bool × Refusal)) (a : Ans
 alike-cases P [] a r f = f tt
 alike-cases P (c ∷ cs) a r f = (λ e. r (c .1), λ e. alike-cases P cs a r (λ p. f (e, p)))
 
-pub judged-passed : (cs : List (Bool × Refusal)) (a : Answer) → Passed cs → unless-refused (first-refusal cs) a ≡ a
-judged-passed [] a p = refl
-judged-passed (c ∷ cs) a p = ap (λ o. unless-refused o a) (cond-false (c .0) (Some (c .1)) (first-refusal cs) (p .0)) ∙ judged-passed cs a (p .1)
+pub none-applies : (cs : List (Bool × Refusal)) (a : Answer) → Passed cs → unless-refused (first-refusal cs) a ≡ a
+none-applies [] a p = refl
+none-applies (c ∷ cs) a p = ap (λ o. unless-refused o a) (cond-false (c .0) (Some (c .1)) (first-refusal cs) (p .0)) ∙ none-applies cs a (p .1)

@@ -9,7 +9,7 @@ use lib.Dec.{eqb}
 use Rattle.std.proofs.shelf.Tests.{cases-eq, eq-eqb, ne-eqb}
 use Rattle.model.specs.Lists.{In, Before}
 use Rattle.model.proofs.Lists.{in-left, in-last, in-push, in-append, before-left, before-right, before-keep, before-last, before-irrefl, before-append, distinct-push}
-use Rattle.model.proofs.Minimal.{Sound}
+use Rattle.model.proofs.Minimal.{Descending}
 use Rattle.model.proofs.Traces.{Traced, traced-grant}
 use Rattle.model.proofs.Views.{View, Rooted, Meeting, Allowed, Granted, Same, Reason, Kept, Waiting}
 
@@ -47,23 +47,23 @@ module _ {S : Type 0} (_∈_ : ℕ → S → Type 0) (may : ℕ → S → S → 
         | inr j ↦ allowed-reason n u (e u) (w .allowed n u j)
       ]
 
-      pub waiting-sound : Sound (λ n. s .lockers n ++ W n) e
-      waiting-sound = record {
+      pub waiting-descending : Descending (λ n. s .lockers n ++ W n) e
+      waiting-descending = record {
         distinct = w .distinct;
         entered = λ n u i. elim (reasons n u i) [
           | inl q ↦ omega (arith, q)
           | inr r ↦ elim (in-append (s .lockers n) (W n) u i) [
-            | inl j ↦ rw (w .entries n u j) (k .sound .entered n u j)
+            | inl j ↦ rw (w .entries n u j) (k .descending .entered n u j)
             | inr j ↦ elim (w .allowed n u j) [
               | inl a ↦ omega (arith, a .1)
               | inr a ↦
                   let (p, below, in-H, in-K) = meeting n (r .H) (r .K) (r .H) (r .K) (r .rooted) (r .rooted) (r .allows) (r .allows) in
-                  omega (arith, a .3, below, k .sound .entered p u (k .locked-is p u .0 (r .part p in-H)))
+                  omega (arith, a .3, below, k .descending .entered p u (k .locked-is p u .0 (r .part p in-H)))
             ]
           ]
         ];
         lower = λ n u v b. elim (before-append (s .lockers n) (W n) u v b) [
-          | inl c ↦ elim (k .sound .lower n u v c) [
+          | inl c ↦ elim (k .descending .lower n u v c) [
             | inl q ↦ inl (q ∙ sym (w .entries n u (before-left _ u v c)))
             | inr (inl q) ↦ inr (inl (q ∙ sym (w .entries n v (before-right _ u v c))))
             | inr (inr p) ↦ inr (inr (p .0, p .1, before-keep _ (W (p .0)) u v (p .2)))
@@ -111,8 +111,8 @@ module _ {S : Type 0} (_∈_ : ℕ → S → Type 0) (may : ℕ → S → S → 
       waits : Waiting _∈_ may s next (s′ .entry)
       waits = record {
         distinct = λ m. rw (← after m) (elim (cases-eq m n) [
-          | inl q ↦ rw (q, g .here) (distinct-push (s .lockers n) t (k .sound .distinct n) (g .new))
-          | inr f ↦ rw (g .elsewhere m f) (k .sound .distinct m)
+          | inl q ↦ rw (q, g .here) (distinct-push (s .lockers n) t (k .descending .distinct n) (g .new))
+          | inr f ↦ rw (g .elsewhere m f) (k .descending .distinct m)
         ]);
         allowed = λ m u i. let (q, z) = next-is m u i in rw (q, z) (g .allowed);
         entries = entry-kept;
@@ -120,7 +120,7 @@ module _ {S : Type 0} (_∈_ : ℕ → S → Type 0) (may : ℕ → S → S → 
 
       pub granted-kept : Kept _∈_ may s′
       granted-kept = record {
-        sound = let c : s′ .lockers ≡ (λ m. s .lockers m ++ next m) = fun-ext after in rw c (waiting-sound next (s′ .entry) waits);
+        descending = let c : s′ .lockers ≡ (λ m. s .lockers m ++ next m) = fun-ext after in rw c (waiting-descending next (s′ .entry) waits);
         locked-is = λ m u. (
           λ h. elim (g .locks m u .0 h) [
             | inl l ↦ rw (after m) (in-left (s .lockers m) (next m) u (k .locked-is m u .0 l))
@@ -147,7 +147,7 @@ module _ {S : Type 0} (_∈_ : ℕ → S → Type 0) (may : ℕ → S → S → 
         let c : s′ .lockers ≡ s .lockers = fun-ext (e .lockers) in
         let d : s′ .entry ≡ s .entry = fun-ext (e .entry) in
         record {
-          sound = rw (c, d) (k .sound);
+          descending = rw (c, d) (k .descending);
           locked-is = λ m u. rw (e .locked u, c) (k .locked-is m u);
           held-last = λ m u h. rw c (k .held-last m u (less m u h));
           reason = λ m u i. rw (d, e .locked u) (k .reason m u (rw c at i));
@@ -157,7 +157,7 @@ module _ {S : Type 0} (_∈_ : ℕ → S → Type 0) (may : ℕ → S → S → 
   -- where nobody locked anything
   pub start-kept : (s : View S) → ((n : ℕ) → s .lockers n ≡ []) → ((n t : ℕ) → n ∈ s .locked t → ⊥) → ((n t : ℕ) → n ∈ s .held t → ⊥) → s .trace ≡ [] → Kept _∈_ may s
   start-kept s nobody unlocked unheld quiet = record {
-    sound = record {
+    descending = record {
       distinct = λ m. rw (nobody m) tt;
       entered = λ m u i. absurd (rw (nobody m) at i);
       lower = λ m u v b. absurd (rw (nobody m) at b);
