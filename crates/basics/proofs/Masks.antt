@@ -184,9 +184,6 @@ meets-members a b = (
 pub no-member : (n : ℕ) → has 0 n ≡ true → ⊥
 no-member n = both-ways (has 0 n) (has-none n)
 
-pub some-member : (m : ℕ) → (m ≡ 0 → ⊥) → (n : ℕ) × (has m n ≡ true)
-some-member m = some-within (suc m) m (omega arith)
-
 pub or-members : (a b n : ℕ) → (has (bitOr a b) n ≡ true) ↔ ((has a n ≡ true) ⊎ (has b n ≡ true))
 or-members a b n = rw has-or (
   or-cases (has a n) (has b n),

@@ -26,11 +26,12 @@ use Rattle.model.specs.History.{Access}
 use Rattle.model.specs.Replay.{replay-answer, replayed, Below}
 use Rattle.model.proofs.Members.{_∈_, Within}
 use Rattle.model.proofs.Traces.{traced-access}
+use Rattle.model.proofs.Views.{May}
 use Rattle.model.proofs.Locking.{held-locked, same-kept}
 use Rattle.model.proofs.Replays.{right-push, replay-push}
 use Rattle.model.proofs.Phases.{none-some, same-holder, not-waiting, not-ended}
 use Rattle.model.proofs.Records.{Replaced, replaced}
-use Rattle.model.proofs.Inv.{May, meeting, view, Inv}
+use Rattle.model.proofs.Inv.{view, Inv}
 
 below-more : (A : List Access) (k : ℕ) → Below k A → Below (k + 1) A
 below-more [] k b = tt
@@ -71,7 +72,7 @@ module _ (first : Store) (s : State) (C : ℕ → List ℕ) (A : List Access) (i
       let (xs, q) = i .kept .held-last n t h in
       record {
         entry = i .entry;
-        kept = same-kept _∈_ (May (s .rule)) (meeting (s .rule)) (view s C (i .entry) A) (i .kept) _
+        kept = same-kept (s .rule) (view s C (i .entry) A) (i .kept) _
             (record { lockers = λ m. refl; entry = λ u. refl; locked = λ u. refl })
             (λ m u b. b)
             (traced-access C A (i .kept .traced) x xs q (i .kept .descending .distinct n));
@@ -87,7 +88,7 @@ module _ (first : Store) (s : State) (C : ℕ → List ℕ) (A : List Access) (i
         begun-is = i .begun-is;
         asks = λ u m w. rw c (i .asks u m w);
         spent = i .spent;
-        owned = below-push A x (s .begun) (i .owned) (i .begun-is n t (i .kept .locked-is n t .0 (held-locked _∈_ (May (s .rule)) (meeting (s .rule)) (view s C (i .entry) A) (i .kept) n t h)));
+        owned = below-push A x (s .begun) (i .owned) (i .begun-is n t (i .kept .locked-is n t .0 (held-locked (s .rule) (view s C (i .entry) A) (i .kept) t n h)));
         right = right-push A x first (i .right) (ap (λ z. replay-answer z n d) (i .same-store) ∙ e);
         same-store = replay-push A x first ∙ ap (λ x. replayed x n d) (i .same-store) ∙ z;
       }
@@ -118,7 +119,7 @@ module _ (first : Store) (s : State) (C : ℕ → List ℕ) (A : List Access) (i
             → Inv first (changed s t r hs) C A
         changed-kept long small holds asks spent = record {
           entry = i .entry;
-          kept = same-kept _∈_ (May (s .rule)) (meeting (s .rule)) (view s C (i .entry) A) (i .kept) _
+          kept = same-kept (s .rule) (view s C (i .entry) A) (i .kept) _
               (record { lockers = λ m. refl; entry = λ u. refl; locked = same-locked })
               (λ m u b. less-held u m b)
               (i .kept .traced);
@@ -147,7 +148,7 @@ module _ (first : Store) (s : State) (C : ℕ → List ℕ) (A : List Access) (i
           same-store = i .same-store;
         }
 
-    -- t with-phase otherwise
+    -- t stands otherwise
     pub phase-kept : (p : Phase) → ((n : ℕ) → p ≡ Waiting (node n) → (n ∈ locked s t → ⊥) × May (s .rule) n (locked s t) (held s t) × (n < count s))
         → is-ended p ≡ false → Inv first (with-phase s t p) C A
     phase-kept p asks live =

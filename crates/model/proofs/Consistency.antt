@@ -8,9 +8,9 @@ use Rattle.model.specs.State.{State, locked, held}
 use Rattle.model.specs.Step.{session}
 use Rattle.model.specs.History.{lockers-of, accesses}
 use Rattle.model.specs.Consistent.{Consistent, Every-session-consistent}
-use Rattle.model.proofs.Members.{_∈_, lacks}
+use Rattle.model.proofs.Members.{lacks}
 use Rattle.model.proofs.Locking.{held-locked}
-use Rattle.model.proofs.Inv.{May, meeting, view, Inv}
+use Rattle.model.proofs.Inv.{view, Inv}
 use Rattle.model.proofs.Steps.{every-run}
 use Rattle.model.proofs.Explains.{holder-begun}
 
@@ -24,8 +24,7 @@ consistent first h s i = record {
   holds = λ u n. i .holder-is n u;
   begun-holder = λ u n e. holder-begun first h s i n u e;
   last-locker = λ u n e. i .kept .held-last n u (i .holder-is n u .0 e);
-  held-locked = λ t. within-members (held s t) (locked s t) .1 (λ n b.
-      held-locked _∈_ (May (s .rule)) (meeting (s .rule)) (view s (lockers-of h) (i .entry) (accesses h)) (i .kept) n t b);
+  held-locked = λ t. within-members (held s t) (locked s t) .1 (held-locked (s .rule) (view s (lockers-of h) (i .entry) (accesses h)) (i .kept) t);
   unbegun-empty = λ t l. has-empty (locked s t) (λ n. lacks (locked s t) n (λ b. omega (arith, l, i .begun-is n t (i .kept .locked-is n t .0 b))));
   ended-empty = i .spent;
   waits-new = λ t n w. let (b, f, m, c) = i .asks t n w in (b, c, f);

@@ -9,8 +9,8 @@ use lib.Dec.{eqb, ltb}
 use lib.Bits.{bitOr}
 use Rattle.std.specs.declared.option.Option.{Option}
 use Rattle.std.specs.declared.option.Option.the-variants.{Some, None}
-use Rattle.std.proofs.shelf.Tests.{cases-eq, or-cases, and-parts, eqb-true, cases-bool, both-ways, lt-ltb, cond-true, cond-false}
-use Rattle.basics.proofs.Masks.{no-member, some-member, or-members, with-members, has-with, has-empty}
+use Rattle.std.proofs.shelf.Tests.{or-cases, and-parts, eqb-true, cases-bool, both-ways, lt-ltb, cond-true, cond-false}
+use Rattle.basics.proofs.Masks.{no-member, or-members, with-members, has-with, has-empty}
 use Rattle.basics.specs.Sets.{has}
 use Rattle.basics.specs.declared.transaction.TransactionNumber.{TransactionNumber}
 use Rattle.stores.specs.Store.{Store}
@@ -27,13 +27,13 @@ use Rattle.model.specs.Explained.{Precedes, Explained, Every-session-explained
 use Rattle.model.proofs.Lists.{before-left, before-right, before-trans, before-irrefl}
 use Rattle.model.proofs.Members.{_∈_, lacks}
 use Rattle.model.proofs.Traces.{at-node, same-by-one}
-use Rattle.model.proofs.Views.{View, Asks}
+use Rattle.model.proofs.Views.{View}
 use Rattle.model.proofs.Locking.{held-locked}
 use Rattle.model.proofs.Queues.{minimal-of-all}
 use Rattle.model.proofs.Placing.{Placed, all-placed}
 use Rattle.model.proofs.Replays.{right-answers, right-over, values-over}
 use Rattle.model.proofs.Phases.{same-node, not-waiting}
-use Rattle.model.proofs.Inv.{all-begun, May, meeting, view, Inv}
+use Rattle.model.proofs.Inv.{all-begun, view, Inv}
 use Rattle.model.proofs.Steps.{every-run}
 use Rattle.model.proofs.Waiters.{waiters, want, waiters-wait, is-waiter, wants, waiters-distinct}
 
@@ -48,11 +48,11 @@ in-holder-set : (o : Option TransactionNumber) (u : ℕ) → u < 32 → o ≡ So
 in-holder-set o u l e = rw e (with-members 32 0 u u l .1 (inr refl))
 
 module _ (first : Store) (h : List Event) (s : State) (i : Inv first s (lockers-of h) (accesses h)) where
-  abbrev v : View ℕ
+  abbrev v : View
   v = view s (lockers-of h) (i .entry) (accesses h)
 
   holder-locked : (n u : ℕ) → Holds s u n → n ∈ locked s u
-  holder-locked n u e = held-locked _∈_ (May (s .rule)) (meeting (s .rule)) v (i .kept) n u (i .holder-is n u .0 e)
+  holder-locked n u e = held-locked (s .rule) v (i .kept) u n (i .holder-is n u .0 e)
 
   pub holder-begun : (n u : ℕ) → Holds s u n → u < s .begun
   holder-begun n u e = i .begun-is n u (i .kept .locked-is n u .0 (holder-locked n u e))
@@ -98,16 +98,10 @@ module _ (first : Store) (h : List Event) (s : State) (i : Inv first s (lockers-
     )
   ]
 
-  asks : (t : ℕ) → In t (waiters s) → Asks _∈_ (May (s .rule)) v (want s t) t
-  asks t j = elim (cases-eq (locked s t) 0) [
-    | inl z ↦ inl (λ m b. no-member m (rw z at b))
-    | inr f ↦ let (m, b) = some-member (locked s t) f in inr (m, b, i .asks t (want s t) (waiters-wait s t j) .2)
-  ]
-
   -- of any transactions, one whose predecessors are none of them
   least : (x : ℕ) (xs : List ℕ) → (w : ℕ) × In w (x ∷ xs) × ((u : ℕ) → In u (x ∷ xs) → u ∈ predecessors s w → ⊥)
   least x xs =
-      let (w, j, locker, waiting) = minimal-of-all _∈_ (May (s .rule)) (meeting (s .rule)) v (i .kept) (waiters s) (want s) asks (waiters-distinct s)
+      let (w, j, locker, waiting) = minimal-of-all (s .rule) v (i .kept) (waiters s) (want s) (λ t j. i .asks t (want s t) (waiters-wait s t j) .2) (waiters-distinct s)
       (λ t j k. i .asks t (want s t) (waiters-wait s t j) .1 (i .kept .locked-is (want s t) t .1 k)) x xs in (
         w,
         j,

@@ -11,7 +11,7 @@ use lib.ListN.{length, getD, set, length-set}
 use lib.Seq.{getD-set-same, getD-set-other}
 use Rattle.std.specs.declared.option.Option.the-variants.{Some, None}
 use Rattle.std.proofs.shelf.Tests.{cases-eq, eq-eqb, ne-eqb}
-use Rattle.basics.proofs.Masks.{no-member, some-member, or-members, with-members, with-lt}
+use Rattle.basics.proofs.Masks.{or-members, with-members, with-lt}
 use Rattle.basics.specs.Sets.{with-member}
 use Rattle.basics.specs.declared.transaction.TransactionSet.{TransactionSet}
 use Rattle.stores.specs.Store.{Store}
@@ -27,7 +27,7 @@ use Rattle.model.proofs.Locking.{granted-kept}
 use Rattle.model.proofs.Phases.{none-some, same-holder, not-waiting, not-ended}
 use Rattle.model.proofs.Records.{Replaced, replaced}
 use Rattle.model.proofs.Pushes.{in-pushed, before-pushed}
-use Rattle.model.proofs.Inv.{May, meeting, view, Asking, Inv}
+use Rattle.model.proofs.Inv.{view, Asking, Inv}
 
 -- one mask gets one element more
 one-more-member : (w : ℕ) (f f′ : ℕ → ℕ) (n t : ℕ) → n < w → ((u : ℕ) → u ≡ t → f′ u ≡ with-member w (f t) n) → ((u : ℕ) → (u ≡ t → ⊥) → f′ u ≡ f u)
@@ -86,13 +86,13 @@ module _ (first : Store) (s : State) (C C′ : ℕ → List ℕ) (A : List Acces
   new : In t (C n) → ⊥
   new j = asking .1 (i .kept .locked-is n t .1 j)
 
-  grants : Granted _∈_ (May (s .rule)) (view s C (i .entry) A) (view (granted s t n) C′ entry A) n t
+  grants : Granted (s .rule) (view s C (i .entry) A) (view (granted s t n) C′ entry A) n t
   grants = record {
     new = new;
     free = nobody;
     allowed = rw entry-here (elim (cases-eq (locked s t) 0) [
-      | inl z ↦ inl (λ m b. no-member m (rw z at b), rw (eq-eqb (locked s t) 0 z) refl)
-      | inr f ↦ let (p, b) = some-member (locked s t) f in inr (p, b, asking .2, rw (ne-eqb (locked s t) 0 f) refl)
+      | inl z ↦ inl (z, rw (eq-eqb (locked s t) 0 z) refl)
+      | inr f ↦ inr (f, asking .2, rw (ne-eqb (locked s t) 0 f) refl)
     ]);
     entries = entry-there;
     here = here;
@@ -157,7 +157,7 @@ module _ (first : Store) (s : State) (C C′ : ℕ → List ℕ) (A : List Acces
   unfolding r
   granted-inv = record {
     entry = entry;
-    kept = granted-kept _∈_ (May (s .rule)) (meeting (s .rule)) (view s C (i .entry) A) (i .kept) _ n t grants;
+    kept = granted-kept (s .rule) (view s C (i .entry) A) (i .kept) _ n t grants;
     few = i .few;
     long-records = length-set (s .records) t r ∙ i .long-records;
     long-holders = length-set (s .holders) n _ ∙ i .long-holders;

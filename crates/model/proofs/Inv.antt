@@ -1,6 +1,5 @@
 -- What holds of a session after whatever calls.
 use mathlib.Core.Path.{_≡_, refl, ap}
-use mathlib.Core.Bool.{true}
 use mathlib.Core.List.{List, []}
 use mathlib.Core.Logic.{inl, inr, _↔_}
 use Prim.Native.Nat.{ℕ, _^_, _≤_, _<_}
@@ -10,7 +9,7 @@ use Rattle.std.specs.declared.option.Option.{Option}
 use Rattle.std.specs.declared.option.Option.the-variants.{None}
 use Rattle.std.proofs.shelf.Lists.{getD-past}
 use Rattle.std.proofs.shelf.Tests.{cases-lt}
-use Rattle.basics.proofs.Masks.{no-member, within-members}
+use Rattle.basics.proofs.Masks.{no-member}
 use Rattle.basics.specs.declared.transaction.TransactionNumber.{TransactionNumber}
 use Rattle.rules.specs.Rule.{Rule}
 use Rattle.stores.specs.Store.{Store}
@@ -20,24 +19,12 @@ use Rattle.model.specs.State.{begun-count, State, transactions, lockers-at, ea
 use Rattle.model.specs.History.{Access}
 use Rattle.model.specs.Replay.{Below, replay}
 use Rattle.model.proofs.Members.{_∈_}
-use Rattle.model.proofs.Views.{View, Rooted, Meeting, Kept}
+use Rattle.model.proofs.Views.{View, May, Kept}
 use Rattle.model.proofs.Locking.{start-kept}
 use Rattle.model.proofs.Replays.{Right}
 
--- the rule lets a transaction lock n
-abbrev pub May : Rule → ℕ → ℕ → ℕ → Type 0
-May rule n H K = rule .allows n H K ≡ true
-
-pub meeting : (rule : Rule) → Meeting _∈_ (May rule)
-meeting rule n H K H′ K′ r r′ m m′ =
-    let (p, up, a, b) = rule .intersect n H K H′ K′ (rooted H K r) (within-members K H .1 (r .part)) m (rooted H′ K′ r′) (within-members K′ H′ .1 (r′ .part)) m′ in
-    (p, rule .lower n p up, a, b)
-  where
-    rooted : (H K : ℕ) → Rooted _∈_ H K → H ≡ 0 → ⊥
-    rooted H K r z = no-member (r .some) (rw z at (r .in-H))
-
 -- the session s, with C n who locked n, in order, e t the first node of t, and A the accesses
-abbrev pub view : State → (ℕ → List ℕ) → (ℕ → ℕ) → List Access → View ℕ
+abbrev pub view : State → (ℕ → List ℕ) → (ℕ → ℕ) → List Access → View
 view s C e A = record { lockers = C; entry = e; locked = locked s; held = held s; trace = A }
 
 -- t may ask for n
@@ -46,7 +33,7 @@ Asking s t n = (t < s .begun) × (n ∈ locked s t → ⊥) × May (s .rule) n (
 
 pub record Inv (first : Store) (s : State) (C : ℕ → List ℕ) (A : List Access) : Type 0 where
   pub entry : ℕ → ℕ
-  pub kept : Kept _∈_ (May (s .rule)) (view s C entry A)
+  pub kept : Kept (s .rule) (view s C entry A)
   pub few : s .begun ≤ 32
   pub long-records : length (s .records) ≡ 32
   pub long-holders : length (s .holders) ≡ 64
@@ -76,7 +63,7 @@ getD-same k i x = elim (cases-lt i k) [
 pub start-inv : (rule : Rule) (store : Store) → Inv store (start rule store) (λ n. []) []
 start-inv rule store = record {
   entry = λ t. 0;
-  kept = start-kept _∈_ (May rule) (view (start rule store) (λ n. []) (λ t. 0) []) (λ n. refl)
+  kept = start-kept rule (view (start rule store) (λ n. []) (λ t. 0) []) (λ n. refl)
       (λ n t h. no-member n (rw (ap (λ r. r .locked .mask) (getD-same 32 t blank)) at h))
       (λ n t h. no-member n (rw (ap (λ r. r .held .mask) (getD-same 32 t blank)) at h))
       refl;

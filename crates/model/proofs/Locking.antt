@@ -7,41 +7,49 @@ use Prim.Native.Nat.{ℕ, _<_}
 use native.Mathlib.Omega.{arith}
 use lib.Dec.{eqb}
 use Rattle.std.proofs.shelf.Tests.{cases-eq, eq-eqb, ne-eqb}
+use Rattle.basics.proofs.Masks.{no-member, within-members}
+use Rattle.rules.specs.Rule.{Rule}
 use Rattle.model.specs.Lists.{In, Before}
 use Rattle.model.proofs.Lists.{in-left, in-last, in-push, in-append, before-left, before-right, before-keep, before-last, before-irrefl, before-append, distinct-push}
+use Rattle.model.proofs.Members.{_∈_, Within}
 use Rattle.model.proofs.Minimal.{Descending}
 use Rattle.model.proofs.Traces.{Traced, traced-grant}
-use Rattle.model.proofs.Views.{View, Rooted, Meeting, Allowed, Granted, Same, Reason, Kept, Waiting}
+use Rattle.model.proofs.Views.{View, May, Allowed, Granted, Same, Reason, Kept, Waiting}
 
-module _ {S : Type 0} (_∈_ : ℕ → S → Type 0) (may : ℕ → S → S → Type 0) where
-  infix 60 _∈_
-  module _ (meeting : Meeting _∈_ may) (s : View S) (k : Kept _∈_ may s) where
-    pub held-locked : (m u : ℕ) → m ∈ s .held u → m ∈ s .locked u
-    held-locked m u h = let (xs, q) = k .held-last m u h in k .locked-is m u .1 (rw q (in-last xs u))
+module _ (rule : Rule) where
+  -- two that may lock n meet at a lower node, which the first has locked and the second holds
+  meeting : (n L : ℕ) (r : Reason rule n L) (H K : ℕ) → (H ≡ 0 → ⊥) → Within K H → May rule n H K → (p : ℕ) × (p < n) × (p ∈ r .H) × (p ∈ K)
+  meeting n L r H K some inside may =
+      let (p, up, a, b) = rule .intersect n (r .H) (r .K) H K (r .some) (within-members (r .K) (r .H) .1 (r .inside)) (r .allows) some (within-members K H .1 inside) may in
+      (p, rule .lower n p up, a, b)
 
-    allowed-reason : (n t e : ℕ) → Allowed _∈_ may s n t e → (n ≡ e) ⊎ Reason _∈_ may n (s .locked t)
+  module _ (s : View) (k : Kept rule s) where
+    pub held-locked : (u : ℕ) → Within (s .held u) (s .locked u)
+    held-locked u m h = let (xs, q) = k .held-last m u h in k .locked-is m u .1 (rw q (in-last xs u))
+
+    allowed-reason : (n t e : ℕ) → Allowed rule s n t e → (n ≡ e) ⊎ Reason rule n (s .locked t)
     allowed-reason n t e (inl a) = inl (sym (a .1))
     allowed-reason n t e (inr a) = inr (record {
       H = s .locked t;
       K = s .held t;
-      rooted = record { some = a .0; in-H = a .1; part = λ p. held-locked p t };
+      some = a .0;
+      inside = held-locked t;
       part = λ p h. h;
-      allows = a .2;
+      allows = a .1;
     })
 
     -- u could lock n, and v may lock it now: they met at a lower node, u first
-    met : (n u v e : ℕ) → (u ≡ v → ⊥) → Reason _∈_ may n (s .locked u) → Allowed _∈_ may s n v e → (n ≡ e) ⊎ ((p : ℕ) × (p < n) × Before u v (s .lockers p))
+    met : (n u v e : ℕ) → (u ≡ v → ⊥) → Reason rule n (s .locked u) → Allowed rule s n v e → (n ≡ e) ⊎ ((p : ℕ) × (p < n) × Before u v (s .lockers p))
     met n u v e ne r (inl a) = inl (sym (a .1))
     met n u v e ne r (inr a) =
-        let ours : Rooted _∈_ (s .locked v) (s .held v) = record { some = a .0; in-H = a .1; part = λ p. held-locked p v } in
-        let (p, below, in-H, in-K) = meeting n (r .H) (r .K) (s .locked v) (s .held v) (r .rooted) ours (r .allows) (a .2) in
+        let (p, below, in-H, in-K) = meeting n (s .locked u) r (s .locked v) (s .held v) (a .0) (held-locked v) (a .1) in
         let (xs, q) = k .held-last p v in-K in
         let j : In u (xs ++ (v ∷ [])) = rw q at (k .locked-is p u .0 (r .part p in-H)) in
         let b : Before u v (xs ++ (v ∷ [])) = elim (in-push xs v u j) [ inl l ↦ before-last xs v u l | inr z ↦ absurd (ne z) ] in
         inr (p, below, rw q b)
 
-    module _ (W : ℕ → List ℕ) (e : ℕ → ℕ) (w : Waiting _∈_ may s W e) where
-      reasons : (n u : ℕ) → In u (s .lockers n ++ W n) → (n ≡ e u) ⊎ Reason _∈_ may n (s .locked u)
+    module _ (W : ℕ → List ℕ) (e : ℕ → ℕ) (w : Waiting rule s W e) where
+      reasons : (n u : ℕ) → In u (s .lockers n ++ W n) → (n ≡ e u) ⊎ Reason rule n (s .locked u)
       reasons n u i = elim (in-append (s .lockers n) (W n) u i) [
         | inl j ↦ elim (k .reason n u j) [ inl q ↦ inl (q ∙ sym (w .entries n u j)) | inr r ↦ inr r ]
         | inr j ↦ allowed-reason n u (e u) (w .allowed n u j)
@@ -57,8 +65,8 @@ module _ {S : Type 0} (_∈_ : ℕ → S → Type 0) (may : ℕ → S → S → 
             | inr j ↦ elim (w .allowed n u j) [
               | inl a ↦ omega (arith, a .1)
               | inr a ↦
-                  let (p, below, in-H, in-K) = meeting n (r .H) (r .K) (r .H) (r .K) (r .rooted) (r .rooted) (r .allows) (r .allows) in
-                  omega (arith, a .3, below, k .descending .entered p u (k .locked-is p u .0 (r .part p in-H)))
+                  let (p, below, in-H, in-K) = meeting n (s .locked u) r (r .H) (r .K) (r .some) (r .inside) (r .allows) in
+                  omega (arith, a .2, below, k .descending .entered p u (k .locked-is p u .0 (r .part p in-H)))
             ]
           ]
         ];
@@ -78,7 +86,7 @@ module _ {S : Type 0} (_∈_ : ℕ → S → Type 0) (may : ℕ → S → S → 
         ];
       }
 
-    module _ (s′ : View S) (n t : ℕ) (g : Granted _∈_ may s s′ n t) where
+    module _ (s′ : View) (n t : ℕ) (g : Granted rule s s′ n t) where
       next : ℕ → List ℕ
       next m = cond (eqb m n) (t ∷ []) []
 
@@ -104,11 +112,11 @@ module _ {S : Type 0} (_∈_ : ℕ → S → Type 0) (may : ℕ → S → S → 
       -- who has locked a node keeps its entry
       entry-kept : (m u : ℕ) → In u (s .lockers m) → s′ .entry u ≡ s .entry u
       entry-kept m u i = elim (cases-eq u t) [
-        | inl q ↦ elim (g .allowed) [ inl a ↦ absurd (a .0 m (k .locked-is m t .1 (rw q at i))) | inr a ↦ rw q (a .3) ]
+        | inl q ↦ elim (g .allowed) [ inl a ↦ absurd (no-member m (rw (a .0) at (k .locked-is m t .1 (rw q at i)))) | inr a ↦ rw q (a .2) ]
         | inr f ↦ g .entries u f
       ]
 
-      waits : Waiting _∈_ may s next (s′ .entry)
+      waits : Waiting rule s next (s′ .entry)
       waits = record {
         distinct = λ m. rw (← after m) (elim (cases-eq m n) [
           | inl q ↦ rw (q, g .here) (distinct-push (s .lockers n) t (k .descending .distinct n) (g .new))
@@ -118,7 +126,7 @@ module _ {S : Type 0} (_∈_ : ℕ → S → Type 0) (may : ℕ → S → S → 
         entries = entry-kept;
       }
 
-      pub granted-kept : Kept _∈_ may s′
+      pub granted-kept : Kept rule s′
       granted-kept = record {
         descending = let c : s′ .lockers ≡ (λ m. s .lockers m ++ next m) = fun-ext after in rw c (waiting-descending next (s′ .entry) waits);
         locked-is = λ m u. (
@@ -136,13 +144,13 @@ module _ {S : Type 0} (_∈_ : ℕ → S → Type 0) (may : ℕ → S → S → 
         ];
         reason = λ m u i. elim (reasons next (s′ .entry) waits m u (rw (after m) at i)) [
           | inl q ↦ inl q
-          | inr r ↦ inr (record { H = r .H; K = r .K; rooted = r .rooted; part = λ p h. g .locks p u .1 (inl (r .part p h)); allows = r .allows })
+          | inr r ↦ inr (record { H = r .H; K = r .K; some = r .some; inside = r .inside; part = λ p h. g .locks p u .1 (inl (r .part p h)); allows = r .allows })
         ];
         traced = rw (g .quiet) (traced-grant (s .lockers) (s′ .lockers) (s .trace) (k .traced) n t (g .here) (g .elsewhere) (g .new));
       }
 
     -- where no lock is granted
-    pub same-kept : (s′ : View S) → Same _∈_ may s s′ → ((m u : ℕ) → m ∈ s′ .held u → m ∈ s .held u) → Traced (s .lockers) (s′ .trace) → Kept _∈_ may s′
+    pub same-kept : (s′ : View) → Same s s′ → ((m u : ℕ) → m ∈ s′ .held u → m ∈ s .held u) → Traced (s .lockers) (s′ .trace) → Kept rule s′
     same-kept s′ e less traced =
         let c : s′ .lockers ≡ s .lockers = fun-ext (e .lockers) in
         let d : s′ .entry ≡ s .entry = fun-ext (e .entry) in
@@ -155,7 +163,7 @@ module _ {S : Type 0} (_∈_ : ℕ → S → Type 0) (may : ℕ → S → S → 
         }
 
   -- where nobody locked anything
-  pub start-kept : (s : View S) → ((n : ℕ) → s .lockers n ≡ []) → ((n t : ℕ) → n ∈ s .locked t → ⊥) → ((n t : ℕ) → n ∈ s .held t → ⊥) → s .trace ≡ [] → Kept _∈_ may s
+  pub start-kept : (s : View) → ((n : ℕ) → s .lockers n ≡ []) → ((n t : ℕ) → n ∈ s .locked t → ⊥) → ((n t : ℕ) → n ∈ s .held t → ⊥) → s .trace ≡ [] → Kept rule s
   start-kept s nobody unlocked unheld quiet = record {
     descending = record {
       distinct = λ m. rw (nobody m) tt;

@@ -79,7 +79,7 @@ module _ (C : ℕ → List ℕ) (e : ℕ → ℕ) (s : Descending C e) where
   at-max : (n u t : ℕ) → Before u t (C n) → Before u t (C (max (e u) (e t)))
   at-max n u t b = at-entry (suc n) n u t (omega arith) b
 
-  -- the step: the last to enter is taken out, and w is least of the others
+  -- the step: the last to enter is taken out, and w is minimal among the others
   from-rest : (x : ℕ) (xs : List ℕ) (l : Largest e x xs) → Minimal C (l .rest) → Minimal C (x ∷ xs)
   from-rest x xs l (w, i, least) =
       let t = l .top in

@@ -52,7 +52,7 @@ module _ (p q : ℕ → Bool) (part : (x : ℕ) → q x ≡ true → p x ≡ tru
     | inr a ↦ elim (cases-bool (p x)) [ inl b ↦ simp (a, b) (omega (arith, kept-fewer xs)) | inr b ↦ simp (a, b) (kept-fewer xs) ]
   ]
 
-  -- and one passes p holder-set
+  -- and one passes p alone
   kept-less : (xs : List ℕ) (t : ℕ) → In t xs → p t ≡ true → q t ≡ false → length (kept-by q xs) < length (kept-by p xs)
   kept-less [] t i a b = absurd i
   kept-less (x ∷ xs) t (inl z) a b = simp (ap q (sym z) ∙ b, ap p (sym z) ∙ a) (omega (arith, kept-fewer xs))

@@ -94,7 +94,7 @@ module _ (first : Store) (r : Run) (i : Holding first r) where
   refuses : (c : Call) (k : Refusal) → accessed c (refused k) ≡ [] → Next c (refused k)
   refuses c k e = quiet c (refused k) (none-granted c k) e here
 
-  -- a call other than an access is unless-refused
+  -- a call other than an access is refused or not
   unless-any : (c : Call) (cs : List (Bool × Refusal)) → ((k : Refusal) → accessed c (refused k) ≡ [])
       → (Passed cs → Next c (unrefused (r .state) c)) → Next c (unless-refused (first-refusal cs) (unrefused (r .state) c))
   unless-any c cs e f = refused-cases (Next c) cs (unrefused (r .state) c) (alike-cases (Next c) cs (unrefused (r .state) c) (λ k. refuses c k (e k)) f)

@@ -99,7 +99,7 @@ module _ (C : ℕ → List ℕ) (trace : List Access) (traced : Traced C trace) 
   absent : (n u : ℕ) → (In u (C n) → ⊥) → accesses-by u (at-node n trace) ≡ []
   absent n u f = ap (accesses-by u) (traced n) ∙ by-none (at-node n trace) (C n) u f
 
-  -- run one by one, in an order that agrees with each node's, the accesses of each node are the same
+  -- in series, in an order that agrees with each node's, the accesses of each node are the same
   pub same-by-one : (L : List ℕ) (n : ℕ) → Distinct L → Distinct (C n) → ((u : ℕ) → In u (C n) → In u L)
       → ((u w : ℕ) → Before w u L → Before u w (C n) → ⊥) → at-node n (serial L trace) ≡ at-node n trace
   same-by-one L n a c sub agrees =
