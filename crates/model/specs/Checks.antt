@@ -1,4 +1,4 @@
--- What each call is answered.
+-- What each call is answered. A check is a test, and the refusal that is given where the test is true.
 use mathlib.Core.Bool.{Bool, true, false, not}
 use mathlib.Core.List.{List, [], _∷_, _++_}
 use Prim.Native.Nat.{ℕ}

@@ -1,4 +1,4 @@
--- What a session holds.
+-- What a session holds: the arrays of a program, with its rule and its store.
 use mathlib.Core.Path.{_≡_}
 use mathlib.Core.List.{List}
 use Prim.Native.Nat.{ℕ, min}
