@@ -30,7 +30,8 @@ use Rattle.model.proofs.Pushes.{in-pushed, before-pushed}
 use Rattle.model.proofs.Inv.{view, Asking, Inv}
 
 -- one mask gets one element more
-one-more-member : (w : ℕ) (f f′ : ℕ → ℕ) (n t : ℕ) → n < w → ((u : ℕ) → u ≡ t → f′ u ≡ with-member w (f t) n) → ((u : ℕ) → (u ≡ t → ⊥) → f′ u ≡ f u)
+one-more-member : (w : ℕ) (f f′ : ℕ → ℕ) (n t : ℕ) → n < w
+    → ((u : ℕ) → u ≡ t → f′ u ≡ with-member w (f t) n) → ((u : ℕ) → (u ≡ t → ⊥) → f′ u ≡ f u)
     → (m u : ℕ) → (m ∈ f′ u) ↔ ((m ∈ f u) ⊎ ((m ≡ n) × (u ≡ t)))
 one-more-member w f f′ n t l here there m u = elim (cases-eq u t) [
   | inl q ↦ rw (here u q, q) (
@@ -41,10 +42,12 @@ one-more-member w f f′ n t l here there m u = elim (cases-eq u t) [
 ]
 
 -- an array of masks after one of them is replaced
-mask-here : (xs : List TransactionSet) (k : ℕ) (x : TransactionSet) → k < length xs → (j : ℕ) → j ≡ k → getD (set xs k x) j (transactions 0) .mask ≡ x .mask
+mask-here : (xs : List TransactionSet) (k : ℕ) (x : TransactionSet) → k < length xs → (j : ℕ) → j ≡ k
+    → getD (set xs k x) j (transactions 0) .mask ≡ x .mask
 mask-here xs k x h j q = ap (λ y. getD (set xs k x) y (transactions 0) .mask) q ∙ ap (λ y. y .mask) (getD-set-same xs k x (transactions 0) h)
 
-mask-there : (xs : List TransactionSet) (k : ℕ) (x : TransactionSet) (j : ℕ) → (j ≡ k → ⊥) → getD (set xs k x) j (transactions 0) .mask ≡ getD xs j (transactions 0) .mask
+mask-there : (xs : List TransactionSet) (k : ℕ) (x : TransactionSet) (j : ℕ) → (j ≡ k → ⊥)
+    → getD (set xs k x) j (transactions 0) .mask ≡ getD xs j (transactions 0) .mask
 mask-there xs k x j f = ap (λ y. y .mask) (getD-set-other xs k j x (transactions 0) f)
 
 -- f with v at k

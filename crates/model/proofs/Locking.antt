@@ -20,7 +20,9 @@ module _ (rule : Rule) where
   -- two that may lock n meet at a lower node, which the first has locked and the second holds
   meeting : (n L : ℕ) (r : Reason rule n L) (H K : ℕ) → (H ≡ 0 → ⊥) → Within K H → May rule n H K → (p : ℕ) × (p < n) × (p ∈ r .H) × (p ∈ K)
   meeting n L r H K some inside may =
-      let (p, up, a, b) = rule .intersect n (r .H) (r .K) H K (r .some) (within-members (r .K) (r .H) .1 (r .inside)) (r .allows) some (within-members K H .1 inside) may in
+      let (p, up, a, b) = rule .intersect n (r .H) (r .K) H K
+      (r .some) (within-members (r .K) (r .H) .1 (r .inside)) (r .allows)
+      some (within-members K H .1 inside) may in
       (p, rule .lower n p up, a, b)
 
   module _ (s : View) (k : Kept rule s) where
@@ -163,7 +165,8 @@ module _ (rule : Rule) where
         }
 
   -- where nobody locked anything
-  pub start-kept : (s : View) → ((n : ℕ) → s .lockers n ≡ []) → ((n t : ℕ) → n ∈ s .locked t → ⊥) → ((n t : ℕ) → n ∈ s .held t → ⊥) → s .trace ≡ [] → Kept rule s
+  pub start-kept : (s : View) → ((n : ℕ) → s .lockers n ≡ [])
+      → ((n t : ℕ) → n ∈ s .locked t → ⊥) → ((n t : ℕ) → n ∈ s .held t → ⊥) → s .trace ≡ [] → Kept rule s
   start-kept s nobody unlocked unheld quiet = record {
     descending = record {
       distinct = λ m. rw (nobody m) tt;

@@ -103,12 +103,15 @@ module _ (first : Store) (r : Run) (i : Holding first r) where
   begins = unless-any begin (begin-checks (r .state)) (λ k. refl) (λ p. quiet begin _ (λ n. refl) refl (begun-kept first (r .state) C A here (leb-false 32 _ (p .0))))
 
   module _ (t : ℕ) where
+    is-begun : leb (begun-count (r .state)) t ≡ false → t < r .state .begun
+    is-begun e = omega (arith, leb-false (begun-count (r .state)) t e)
+
     withdraws : Next (withdraw t) (answer (r .state) (withdraw t))
     withdraws = unless-any (withdraw t) (withdraw-checks (r .state) t) (λ k. refl) (λ p. quiet (withdraw t) _ (λ n. refl) refl
-        (phase-kept first (r .state) C A here t (omega (arith, leb-false (begun-count (r .state)) t (p .0))) Open (λ n w. absurd (not-waiting Open (node n) refl w)) refl))
+        (phase-kept first (r .state) C A here t (is-begun (p .0)) Open (λ n w. absurd (not-waiting Open (node n) refl w)) refl))
 
     ends : Next (end t) (answer (r .state) (end t))
-    ends = unless-any (end t) (end-checks (r .state) t) (λ k. refl) (λ p. quiet (end t) _ (λ n. refl) refl (ended-kept first (r .state) C A here t (omega (arith, leb-false (begun-count (r .state)) t (p .0)))))
+    ends = unless-any (end t) (end-checks (r .state) t) (λ k. refl) (λ p. quiet (end t) _ (λ n. refl) refl (ended-kept first (r .state) C A here t (is-begun (p .0))))
 
     module _ (n : ℕ) where
       few : leb (count (r .state)) n ≡ false → n < 64
@@ -116,7 +119,7 @@ module _ (first : Store) (r : Run) (i : Holding first r) where
 
       releases : Next (release t n) (answer (r .state) (release t n))
       releases = unless-any (release t n) (use-checks (r .state) t n) (λ k. refl) (λ p. quiet (release t n) _ (λ m. refl) refl
-          (released-kept first (r .state) C A here t (omega (arith, leb-false (begun-count (r .state)) t (p .0))) n (few (p .1 .1 .0))
+          (released-kept first (r .state) C A here t (is-begun (p .0)) n (few (p .1 .1 .0))
           (not-false _ (p .1 .1 .1 .1 .0)) (p .1 .1 .1 .0) (p .1 .0)))
 
       module _ (h : n ∈ held (r .state) t) (c : n < r .state .store .count) where
@@ -145,8 +148,12 @@ module _ (first : Store) (r : Run) (i : Holding first r) where
         operations (adjust d) = (
           λ e. misses (adjust d) AmountOutOfBounds refl (cond-false _ _ _ (not-true _ e)) (cond-false _ _ _ (not-true _ e)),
           λ a. (
-            λ e. misses (adjust d) OutOfRange refl (cond-true _ _ _ (not-false _ a) ∙ cond-false _ _ _ (not-true _ e)) (cond-true _ _ _ (not-false _ a) ∙ cond-false _ _ _ (not-true _ e)),
-            λ e. does (adjust d) (cond-true _ _ _ (not-false _ a) ∙ cond-true _ _ _ (not-false _ e)) (cond-true _ _ _ (not-false _ a) ∙ written-put (r .state .store) n (r .state .store .values n +ℤ d) c),
+            λ e. misses (adjust d) OutOfRange refl
+                (cond-true _ _ _ (not-false _ a) ∙ cond-false _ _ _ (not-true _ e))
+                (cond-true _ _ _ (not-false _ a) ∙ cond-false _ _ _ (not-true _ e)),
+            λ e. does (adjust d)
+                (cond-true _ _ _ (not-false _ a) ∙ cond-true _ _ _ (not-false _ e))
+                (cond-true _ _ _ (not-false _ a) ∙ written-put (r .state .store) n (r .state .store .values n +ℤ d) c),
           ),
         )
 
@@ -188,7 +195,7 @@ module _ (first : Store) (r : Run) (i : Holding first r) where
 
       locks : Next (lock t n) (answer (r .state) (lock t n))
       locks = unless-any (lock t n) (lock-checks (r .state) t n) (λ k. refl) (λ p.
-          let l : t < r .state .begun = omega (arith, leb-false (begun-count (r .state)) t (p .0)) in
+          let l : t < r .state .begun = is-begun (p .0) in
           locking l (few (p .1 .1 .0))
           (l, both-ways (has (locked (r .state) t) n) (p .1 .1 .1 .1 .0), not-false _ (p .1 .1 .1 .1 .1 .0), leb-false _ n (p .1 .1 .0))
           (holder (r .state) n) refl)

@@ -78,7 +78,8 @@ module _ {A : Type 0} where
       gone ne out (inr j) = out j
 
       skip : (x ≡ y → ⊥) → (In x ys → ⊥)
-          → (((u : ℕ) → In u (y ∷ ys) → In u xs) → ((u w : ℕ) → Before w u xs → Before u w (y ∷ ys) → ⊥) → ((u : ℕ) → In u xs → (In u (y ∷ ys) → ⊥) → f u ≡ []) → joined f xs ≡ joined f (y ∷ ys))
+          → (((u : ℕ) → In u (y ∷ ys) → In u xs) → ((u w : ℕ) → Before w u xs → Before u w (y ∷ ys) → ⊥)
+          → ((u : ℕ) → In u xs → (In u (y ∷ ys) → ⊥) → f u ≡ []) → joined f xs ≡ joined f (y ∷ ys))
           → joined f (x ∷ xs) ≡ joined f (y ∷ ys)
       skip ne out rest = rw (none x (inl refl) (gone ne out)) (rest
           (λ u i. elim (sub u i) [ inl z ↦ absurd (gone ne out (in-at (y ∷ ys) x u (sym z) i)) | inr j ↦ j ])
@@ -130,7 +131,8 @@ joined-access a F xs f =
     ∙ ap (λ l. l ++ (a ∷ [])) (sym (joined-push (λ t. accesses-by t F) xs (a .by)))
 
 -- the last locker makes an access
-pub traced-access : (C : ℕ → List ℕ) (trace : List Access) → Traced C trace → (a : Access) (xs : List ℕ) → C (a .node) ≡ xs ++ (a .by ∷ []) → Distinct (C (a .node)) → Traced C (trace ++ (a ∷ []))
+pub traced-access : (C : ℕ → List ℕ) (trace : List Access) → Traced C trace → (a : Access) (xs : List ℕ)
+    → C (a .node) ≡ xs ++ (a .by ∷ []) → Distinct (C (a .node)) → Traced C (trace ++ (a ∷ []))
 traced-access C trace traced a xs last c m = elim (cases-eq m (a .node)) [
   | inl q ↦
       let F = at-node m trace in
@@ -141,7 +143,8 @@ traced-access C trace traced a xs last c m = elim (cases-eq m (a .node)) [
 ]
 
 -- a new locker has made none
-pub traced-grant : (C C′ : ℕ → List ℕ) (trace : List Access) → Traced C trace → (n t : ℕ) → C′ n ≡ C n ++ (t ∷ []) → ((m : ℕ) → (m ≡ n → ⊥) → C′ m ≡ C m) → (In t (C n) → ⊥) → Traced C′ trace
+pub traced-grant : (C C′ : ℕ → List ℕ) (trace : List Access) → Traced C trace → (n t : ℕ)
+    → C′ n ≡ C n ++ (t ∷ []) → ((m : ℕ) → (m ≡ n → ⊥) → C′ m ≡ C m) → (In t (C n) → ⊥) → Traced C′ trace
 traced-grant C C′ trace traced n t here elsewhere new m = elim (cases-eq m n) [
   | inl q ↦
       let f : ℕ → List Access = λ t. accesses-by t (at-node n trace) in
