@@ -6,12 +6,12 @@ use Prim.Native.Nat.{ℕ, zero, suc, _+_, _-_, _*_, _/_, _%_, _^_, _≤_, _<_, m
 use native.Mathlib.Nat.{mul-assoc, div-one, zero-div, div-eq-of-lt, div-self, pow-suc}
 use native.Mathlib.Numerals.{one-add}
 use native.Mathlib.Omega.{arith}
-use lib.Bits.{bitAnd, bitOr, and-mask, or-shr, and-shr, or-step, and-step, or-zero-l, and-zero-l}
+use lib.Bits.{bitAnd, bitOr, and-mask, or-shr, and-shr, or-step, and-step, or-lt, and-le-l}
 use lib.Dec.{eqb, leb, ltb}
 use lib.Pow.{pow-pos, pow-mono, pow-lt, pow-add, shl-shr, shr-shr}
 use lib.Count.{ones, ones-step, ones-le}
 use Rattle.std.proofs.shelf.Bits.{one-shl, or-disjoint}
-use Rattle.std.proofs.shelf.Tests.{cases-eq, cases-lt, cases-order, cases-bool, eqb-true, eq-eqb, lt-ltb, le-ltb, cond-true, cond-false, cond-below, and-right, and-from, and-parts, ne-eqb, eqb-false, not-true, not-from-false, both-ways}
+use Rattle.std.proofs.shelf.Tests.{cases-eq, cases-lt, cases-order, cases-bool, eqb-true, eq-eqb, lt-ltb, le-ltb, cond-true, cond-false, cond-below, and-right, and-from, and-parts, ne-eqb, eqb-false, not-true, not-from-false, both-ways, or-cases, or-left, or-right, cond-both}
 use Rattle.std.proofs.shelf.Ways.{tells}
 use Rattle.basics.specs.Sets.{has, with-member, without-member, within, meets, counted}
 
@@ -253,3 +253,39 @@ pub single : (p a w : ℕ) → counted (has p) w ≡ 1 → within p a ≡ true �
 single p a w one part =
     let same : counted (has (bitAnd p a)) w ≡ counted (has p) w = ap (λ m. counted (has m) w) (eqb-true (bitAnd p a) p part) in
     omega arith
+
+-- membership as a fact
+pub no-member : (n : ℕ) → has 0 n ≡ true → ⊥
+no-member n = both-ways (has 0 n) (has-none n)
+
+pub or-members : (a b n : ℕ) → (has (bitOr a b) n ≡ true) ↔ ((has a n ≡ true) ⊎ (has b n ≡ true))
+or-members a b n = rw has-or (
+  or-cases (has a n) (has b n),
+  elim [ inl h ↦ or-left (has a n) (has b n) h | inr h ↦ or-right (has a n) (has b n) h ],
+)
+
+pub with-members : (w m n k : ℕ) → n < w → (has (with-member w m n) k ≡ true) ↔ ((has m k ≡ true) ⊎ (k ≡ n))
+with-members w m n k l = rw has-with (
+  λ h. elim (or-cases (has m k) _ h) [ inl a ↦ inl a | inr b ↦ inr (eqb-true k n (and-parts (eqb k n) (ltb k w) b .0)) ],
+  elim [
+    | inl a ↦ or-left (has m k) _ a
+    | inr q ↦ or-right (has m k) _ (and-from (eqb k n) (ltb k w) (eq-eqb k n q) (lt-ltb k w (omega arith)))
+  ],
+)
+
+pub without-members : (w m n k : ℕ) → m < 2 ^ w → (has (without-member w m n) k ≡ true) ↔ ((has m k ≡ true) × (k ≡ n → ⊥))
+without-members w m n k h = rw (has-without w m n k h) (
+  λ e. let (a, b) = and-parts (has m k) (not (eqb k n)) e in (a, eqb-false k n (not-true _ b)),
+  λ (a, ne). and-from (has m k) (not (eqb k n)) a (not-from-false _ (ne-eqb k n ne)),
+)
+
+-- the mask stays within its width
+pub with-lt : (w m n : ℕ) → m < 2 ^ w → with-member w m n < 2 ^ w
+with-lt w m n h = elim (cases-lt n w) [
+  | inl l ↦ rw (cond-true (ltb n w) (bitOr m (2 ^ n)) m (lt-ltb n w l)) (or-lt w m (2 ^ n) h (pow-lt l))
+  | inr g ↦ rw (cond-false (ltb n w) (bitOr m (2 ^ n)) m (le-ltb n w g)) h
+]
+
+pub without-lt : (w m n : ℕ) → m < 2 ^ w → without-member w m n < 2 ^ w
+without-lt w m n h =
+    cond-both (ltb n w) (bitAnd m (2 ^ w - 1 - 2 ^ n)) m (λ x. x < 2 ^ w) (λ e. omega (arith, and-le-l m (2 ^ w - 1 - 2 ^ n))) (λ e. h)

@@ -19,13 +19,6 @@ use Rattle.plans.specs.declared.plan.Node.{Node}
 use Rattle.plans.specs.Building.{good-width, good-parents, node-refusal}
 use Rattle.plans.specs.Nodes.{no-node}
 
--- what holds of each of the first nodes, and of a new one put after them, holds of them all
-pub each-more : (P : ℕ → Node → Type 0) (nodes : List Node) (count : ℕ) (new : Node) → count < length nodes → ((n : ℕ) → n < count → P n (getD nodes n no-node)) → P count new → (n : ℕ) → n < count + 1 → P n (getD (set nodes count new) n no-node)
-each-more P nodes count new l old here n h = elim (cases-eq n count) [
-  | inl q ↦ rw (q, getD-set-same) here
-  | inr ne ↦ rw getD-set-other (old n (omega arith))
-]
-
 -- what is known of a node that is not refused
 pub record Accepted (count width : ℕ) (parents : List NodeNumber) : Type 0 where
   pub room : count < 64

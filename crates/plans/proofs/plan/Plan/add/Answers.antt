@@ -9,12 +9,13 @@ use Rattle.basics.specs.Sets.{has}
 use Rattle.std.specs.declared.result.Result.the-variants.{Ok}
 use Rattle.basics.specs.Lists.{gathered}
 use Rattle.basics.specs.Refusals.{answer-unless, leave-unless}
-use Rattle.basics.proofs.Listing.{set-below, set-some, all-below-more}
+use Rattle.basics.proofs.Listing.{each-more, set-below, set-some, all-below-more}
 use Rattle.plans.specs.declared.plan.Node.{Node}
 use Rattle.plans.specs.Building.{with-node}
+use Rattle.plans.specs.Nodes.{no-node}
 use Rattle.plans.specs.Meaning.{nodes-of}
 use Rattle.plans.proofs.Starts.{laid-more, start-short}
-use Rattle.plans.proofs.Growing.{each-more, Accepted, accepted}
+use Rattle.plans.proofs.Growing.{Accepted, accepted}
 use Rattle.plans.proofs.plan.Plan.add.Needs as need
 
 pub ghost-self : need.ghost-self
@@ -34,15 +35,15 @@ ghost-self c =
         (
           length-set (p .starts) (count + 1) (getD (p .starts) count 0 + c .args .width) ∙ p .ruled,
           (
-            each-more (λ n x. 2 ≤ x .width) (p .nodes) count new room (p .wide) (ok .wide),
+            each-more (λ n x. 2 ≤ x .width) no-node (p .nodes) count new room (p .wide) (ok .wide),
             (
-              each-more (λ n x. x .width ≤ 16) (p .nodes) count new room (p .slim) (ok .slim),
+              each-more (λ n x. x .width ≤ 16) no-node (p .nodes) count new room (p .slim) (ok .slim),
               (
-                λ n q h. each-more (λ n x. (q : ℕ) → has (x .parents .mask) q ≡ true → q < n) (p .nodes) count new room (λ n l q h. p .lower n q (l, h)) (λ q h. set-below count ps q (ok .lower) (ap (λ m. has m q) (sym mask) ∙ h)) n (h .0) q (h .1),
+                λ n q h. each-more (λ n x. (q : ℕ) → has (x .parents .mask) q ≡ true → q < n) no-node (p .nodes) count new room (λ n l q h. p .lower n q (l, h)) (λ q h. set-below count ps q (ok .lower) (ap (λ m. has m q) (sym mask) ∙ h)) n (h .0) q (h .1),
                 (
                   laid-more (p .nodes) (p .starts) count new room (omega arith) (p .laid),
                   (
-                    λ n l h. each-more (λ n x. 0 < n → 0 < x .parents .mask) (p .nodes) count new room (λ n l z. p .rooted n z l) (λ z. subst (λ m. 0 < m) (sym mask) (set-some ps (all-below-more count 64 ps (omega arith) (ok .lower)) (ok .some z))) n h l,
+                    λ n l h. each-more (λ n x. 0 < n → 0 < x .parents .mask) no-node (p .nodes) count new room (λ n l z. p .rooted n z l) (λ z. subst (λ m. 0 < m) (sym mask) (set-some ps (all-below-more count 64 ps (omega arith) (ok .lower)) (ok .some z))) n h l,
                     tt,
                   ),
                 ),

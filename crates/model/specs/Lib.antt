@@ -1,0 +1,12 @@
+pub mod Lists
+pub mod Calls
+pub mod State
+pub mod Checks
+pub mod Step
+pub mod Order
+pub mod History
+pub mod Replay
+pub mod Explained
+pub mod Progress
+pub mod Consistent
+pub mod Example
