@@ -105,5 +105,5 @@ pack-refusal nodes values image =
 abbrev pub put-bit : List Node → List ℕ → ℕ → ℤ → Bool → ℕ → Bool
 put-bit nodes image n v taken i =
     cond taken
-      (with-field (image-bit image) (field-start nodes n) (node-at nodes n .width) (bits-of (node-at nodes n .width) v) i)
-      (image-bit image i)
+    (with-field (image-bit image) (field-start nodes n) (node-at nodes n .width) (bits-of (node-at nodes n .width) v) i)
+    (image-bit image i)

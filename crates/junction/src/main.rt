@@ -1,13 +1,18 @@
-// One task from beginning to end: a small junction's plan is built and shown, and the engineer is told which rows a
-// change of phase six can touch.
+// One task from beginning to end: a small junction's plan is built and shown, the engineer is told which rows a change
+// of phase six can touch, and changes a clearance time in the image that the lamps read.
 use basics::node::NodeNumber;
 use basics::node::NodeNumberPartialEq;
+use images::pack::pack;
+use images::packed::PackedNodeStore;
+use images::packed::PackedStore;
 use plans::plan::Plan;
 use std::error::AnyError;
+use stores::store::NodeStore;
 
 struct Entry {
     name: &'static str,
     width: u8,
+    value: i32,
     parents: &'static [NodeNumber],
 }
 
@@ -16,66 +21,80 @@ const ENTRIES: [Entry; 12] = [
     Entry {
         name: "junction",
         width: 4,
+        value: 0,
         parents: &[],
     },
     Entry {
         name: "stage one",
         width: 4,
+        value: 1,
         parents: &[NodeNumber(0)],
     },
     Entry {
         name: "phase two",
         width: 4,
+        value: 1,
         parents: &[NodeNumber(1)],
     },
     Entry {
         name: "green of phase two",
         width: 8,
+        value: 100,
         parents: &[NodeNumber(2)],
     },
     Entry {
         name: "clearance of phase two",
         width: 8,
+        value: 30,
         parents: &[NodeNumber(2)],
     },
     Entry {
         name: "stage two",
         width: 4,
+        value: 2,
         parents: &[NodeNumber(0)],
     },
     Entry {
         name: "phase four",
         width: 4,
+        value: 1,
         parents: &[NodeNumber(5)],
     },
     Entry {
         name: "green of phase four",
         width: 8,
+        value: 80,
         parents: &[NodeNumber(6)],
     },
     Entry {
         name: "phase six",
         width: 4,
+        value: 1,
         parents: &[NodeNumber(5)],
     },
     Entry {
         name: "green of phase six",
         width: 8,
+        value: 60,
         parents: &[NodeNumber(8)],
     },
     Entry {
         name: "long trucks in phase six",
         width: 2,
+        value: 0,
         parents: &[NodeNumber(8)],
     },
     Entry {
         name: "clearance of phases four and six",
         width: 8,
+        value: 20,
         parents: &[NodeNumber(6), NodeNumber(8)],
     },
 ];
 
 const PHASE_SIX: NodeNumber = NodeNumber(8);
+
+const CLEARANCE: NodeNumber = NodeNumber(11);
 
 fn name(n: NodeNumber) -> &'static str {
     if n.0 < 12 {
@@ -156,10 +175,64 @@ fn tell_below(rt: &impl Print, plan: &Plan, top: NodeNumber) -> Result<(), AnyEr
     Ok(())
 }
 
+fn first_values() -> [i32; 12] {
+    let mut values = [0; 12];
+    for i in 0..12 {
+        values[i] = ENTRIES[i].value;
+    }
+    values
+}
+
+// The bytes that hold the plan's fields, in hexadecimal.
+fn show_image(rt: &impl Print, plan: &Plan, image: &[u8]) -> Result<(), AnyError> {
+    let bits = plan.start(NodeNumber(plan.count())) as usize;
+    for byte in image.iter().take((bits + 7) / 8) {
+        print!(rt, " {byte:02X}")?;
+    }
+    println!(rt, "")?;
+    Ok(())
+}
+
+fn change(
+    rt: &impl Print,
+    store: &mut impl NodeStore,
+    n: NodeNumber,
+    tenths: i32,
+) -> Result<(), AnyError> {
+    let before = store.value(n);
+    if store.put(n, tenths) {
+        println!(
+            rt,
+            "The {} is changed from {before} to {tenths} tenths of a second.",
+            name(n)
+        )?;
+    } else {
+        println!(
+            rt,
+            "The {} cannot be {tenths}: its row holds {} to {}. It stays {before}.",
+            name(n),
+            store.low(n),
+            store.high(n)
+        )?;
+    }
+    Ok(())
+}
+
 fn run(rt: &impl Print) -> Result<(), AnyError> {
     let plan = build()?;
     show(rt, &plan)?;
-    tell_below(rt, &plan, PHASE_SIX)
+    tell_below(rt, &plan, PHASE_SIX)?;
+    let mut page = [0u8; 128];
+    if pack(&plan, &first_values(), &mut page).is_err() {
+        return Err("a value does not fit its row".into());
+    }
+    print!(rt, "The image of the plan:")?;
+    show_image(rt, &plan, &page)?;
+    let mut store = PackedStore::new(&plan, &mut page);
+    change(rt, &mut store, CLEARANCE, 50)?;
+    change(rt, &mut store, CLEARANCE, 200)?;
+    print!(rt, "The image of the plan now:")?;
+    show_image(rt, &plan, store.into_image())
 }
 
 fn main(rt: LibcRuntime) -> Result<(), AnyError> {

@@ -32,7 +32,7 @@ returns c =
       plan = refl;
       long = c .write-bits .kept .image;
       bits = λ i.
-        c .write-bits .ensures i
+          c .write-bits .ensures i
           ∙ ap (λ u. with-field (image-bit image) (f .start) (f .width) u i) (c .twos-complement .ensures .bits ∙ ap (bits-of (f .width)) same)
           ∙ ap (λ a. with-field (image-bit image) a (f .width) (bits-of (f .width) v) i) (lies .starts)
           ∙ ap (λ w. with-field (image-bit image) (field-start nodes n) w (bits-of w v) i) (lies .spans);

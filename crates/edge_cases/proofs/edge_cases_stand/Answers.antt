@@ -1,0 +1,5 @@
+use mathlib.Core.Path.{refl}
+use Rattle.edge_cases.proofs.edge_cases_stand.Needs as need
+
+pub returns : need.returns
+returns c = record { stores = ((refl, refl), (refl, refl), (refl, refl)) }

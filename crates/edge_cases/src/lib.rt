@@ -1,0 +1,9 @@
+// Cases at the edges, worked out over the definitions that the other crates' contracts cite.
+ghost use Rattle.edge_cases.specs.Stores.{Image-of-two, Narrow, Wide};
+
+// All of them hold.
+pub fn edge_cases_stand() -> u8
+    ensures stores { λ _. ⌜ Image-of-two × Narrow × Wide ⌝ }
+{
+    0
+}
