@@ -7,3 +7,4 @@ pub mod Meaning
 pub mod Parents
 pub mod PlanRules
 pub mod Rule
+pub mod Ruling

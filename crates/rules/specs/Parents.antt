@@ -2,11 +2,11 @@
 use mathlib.Core.Path.{_≡_, sym, _∙_, ap}
 use mathlib.Core.Bool.{true}
 use mathlib.Core.List.{List}
-use mathlib.Core.Logic.{_⊎_, inl, inr}
+use mathlib.Core.Logic.{inl, inr}
 use Prim.Native.Nat.{ℕ, _<_, _≤_}
 use native.Mathlib.Omega.{arith}
-use lib.ListN.{length, take}
-use Rattle.std.proofs.shelf.Lists.{getD-past, getD-take, length-take, length-take-le}
+use lib.ListN.{length}
+use Rattle.std.proofs.shelf.Lists.{getD-past, getD-take, length-take}
 use Rattle.std.proofs.shelf.Tests.{cases-lt, both-ways}
 use Rattle.basics.specs.Sets.{has}
 use Rattle.basics.proofs.Masks.{has-none}

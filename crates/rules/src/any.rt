@@ -1,5 +1,4 @@
 // One type for a rule that is chosen at run time.
-ghost use mathlib.Core.Path.{_≡_};
 ghost use Rattle.rules.specs.Choice.{any-rule};
 use crate::guard::GuardTable;
 use crate::guarded::GuardLockRule;
@@ -14,7 +13,7 @@ use basics::node::NodeSet;
 use plans::plan::Plan;
 
 // P refers to a plan and G to a guard table.
-#[derive(Clone, Copy)]
+#[derive(Clone, Copy, Drop)]
 pub enum AnyRule<P, G> {
     Tree(P),
     Majority(P),

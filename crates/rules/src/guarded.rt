@@ -10,7 +10,7 @@ use crate::rule::LockRule;
 use basics::node::NodeNumber;
 use basics::node::NodeSet;
 
-#[derive(Clone, Copy)]
+#[derive(Clone, Copy, Drop)]
 pub struct GuardRule<'p> {
     pub table: &'p GuardTable,
 }
@@ -49,6 +49,6 @@ pub impl LockRule for GuardRule<'_> as GuardLockRule {
     }
 
     fn allows(&self, n: NodeNumber, locked: NodeSet, held: NodeSet) -> bool {
-        n.0 < self.table.plan.count() && (locked.is_empty() || self.table.admits(n, locked, held))
+        n.0 < self.count() && (locked.is_empty() || self.table.admits(n, locked, held))
     }
 }

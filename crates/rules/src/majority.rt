@@ -8,7 +8,7 @@ use basics::node::NodeNumber;
 use basics::node::NodeSet;
 use plans::plan::Plan;
 
-#[derive(Clone, Copy)]
+#[derive(Clone, Copy, Drop)]
 pub struct MajorityRule<'p> {
     pub plan: &'p Plan,
 }
@@ -31,6 +31,6 @@ pub impl LockRule for MajorityRule<'_> as MajorityLockRule {
     }
 
     fn allows(&self, n: NodeNumber, locked: NodeSet, held: NodeSet) -> bool {
-        n.0 < self.plan.count() && (locked.is_empty() || most_held(self.plan.parents(n), held))
+        n.0 < self.count() && (locked.is_empty() || most_held(self.parents(n), held))
     }
 }

@@ -4,10 +4,9 @@ ghost use mathlib.Core.List.{[]};
 ghost use lib.ListN.{length};
 ghost use Rattle.basics.specs.Refusals.{answer-unless, leave-unless};
 ghost use Rattle.plans.specs.Meaning.{nodes-of};
-ghost use Rattle.rules.specs.Adding.{guard-from, in-limits, good-guard, guard-refusal, with-guard};
+ghost use Rattle.rules.specs.Adding.{guard-from, in-limits, guard-refusal, with-guard};
 ghost use Rattle.rules.specs.Guards.{fits, crosses, compatible, all-compatible};
 ghost use Rattle.rules.specs.Meaning.{guards-of};
-ghost use Rattle.rules.specs.Parents.{parents-in};
 use crate::guard::Guard;
 use crate::guard::GuardTable;
 use basics::list::all_below;
@@ -66,7 +65,7 @@ impl GuardTable {
     pub fn count(&self) -> u16
         ensures { λ r. ⌜ r ≡ length (guards-of (now (self .entry))) ⌝ }
     {
-        self.len
+        self.len // at most 256
     }
 
     fn in_limits(&self, node: NodeNumber, a: &[NodeNumber], b: &[NodeNumber]) -> bool

@@ -8,7 +8,7 @@ use basics::node::NodeNumber;
 use basics::node::NodeSet;
 use plans::plan::Plan;
 
-#[derive(Clone, Copy)]
+#[derive(Clone, Copy, Drop)]
 pub struct TreeRule<'p> {
     pub plan: &'p Plan,
 }
@@ -31,6 +31,6 @@ pub impl LockRule for TreeRule<'_> as TreeLockRule {
     }
 
     fn allows(&self, n: NodeNumber, locked: NodeSet, held: NodeSet) -> bool {
-        n.0 < self.plan.count() && (locked.is_empty() || only_held(self.plan.parents(n), held))
+        n.0 < self.count() && (locked.is_empty() || only_held(self.parents(n), held))
     }
 }

@@ -1,7 +1,7 @@
 use mathlib.Core.Path.{_≡_, refl, sym, ap, _∙_}
 use mathlib.Core.Bool.{true}
-use mathlib.Core.List.{List, [], _∷_, _++_}
-use Prim.Native.Nat.{ℕ, _<_}
+use mathlib.Core.List.{[], _∷_, _++_}
+use Prim.Native.Nat.{_<_}
 use native.Mathlib.Omega.{arith}
 use lib.ListN.{length, length-set}
 use Rattle.std.specs.declared.result.Result.the-variants.{Err}
@@ -14,7 +14,7 @@ use Rattle.rules.specs.Adding.{guard-from, guard-refusal, with-guard}
 use Rattle.rules.specs.Guards.{no-guard, fits}
 use Rattle.rules.specs.Meaning.{guards-of}
 use Rattle.rules.specs.Parents.{parents-in}
-use Rattle.rules.proofs.Growing.{Accepted, accepted, was-refused, crosses-more}
+use Rattle.rules.proofs.Growing.{accepted, was-refused, crosses-more}
 use Rattle.rules.proofs.Stepping.{size-is}
 use Rattle.rules.proofs.guard.GuardTable.add.Needs as need
 
