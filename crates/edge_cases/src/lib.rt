@@ -1,9 +1,11 @@
 // Cases at the edges, worked out over the definitions that the other crates' contracts cite.
+ghost use Rattle.edge_cases.specs.Rules.{Majority-of-four, Guards-apart, Guards-meet};
 ghost use Rattle.edge_cases.specs.Stores.{Image-of-two, Narrow, Wide};
 
 // All of them hold.
 pub fn edge_cases_stand() -> u8
     ensures stores { λ _. ⌜ Image-of-two × Narrow × Wide ⌝ }
+    ensures rules { λ _. ⌜ Majority-of-four × Guards-apart × Guards-meet ⌝ }
 {
     0
 }
