@@ -1,0 +1,3 @@
+// Tests of the packed image.
+#[cfg(test)]
+mod tests;
