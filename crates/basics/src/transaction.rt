@@ -34,34 +34,34 @@ impl TransactionSet {
         TransactionSet { mask: 0 }
     }
 
-    pub fn contains(self, n: TransactionNumber) -> bool
-        ensures { λ r. ⌜ r ≡ has (self .mask) (n .0) ⌝ }
+    pub fn contains(self, t: TransactionNumber) -> bool
+        ensures { λ r. ⌜ r ≡ has (self .mask) (t .0) ⌝ }
     {
-        n.0 < 32 && (self.mask >> n.0) & 1 == 1
+        t.0 < 32 && (self.mask >> t.0) & 1 == 1
     }
 
-    // The set with n added; a number past 31 adds nothing.
-    pub fn with(self, n: TransactionNumber) -> TransactionSet
-        ensures mask { λ r. ⌜ r .mask ≡ with-member 32 (self .mask) (n .0) ⌝ }
-        ensures members { λ r. ⌜ ((k : ℕ) → has (r .mask) k ≡ (has (self .mask) k || (eqb k (n .0) && ltb k 32))) ⌝ }
+    // The set with t added; a number past 31 adds nothing.
+    pub fn with(self, t: TransactionNumber) -> TransactionSet
+        ensures mask { λ r. ⌜ r .mask ≡ with-member 32 (self .mask) (t .0) ⌝ }
+        ensures members { λ r. ⌜ ((k : ℕ) → has (r .mask) k ≡ (has (self .mask) k || (eqb k (t .0) && ltb k 32))) ⌝ }
     {
-        if n.0 < 32 {
+        if t.0 < 32 {
             TransactionSet {
-                mask: self.mask | (1 << n.0),
+                mask: self.mask | (1 << t.0),
             }
         } else {
             self
         }
     }
 
-    // The set with n removed.
-    pub fn without(self, n: TransactionNumber) -> TransactionSet
-        ensures mask { λ r. ⌜ r .mask ≡ without-member 32 (self .mask) (n .0) ⌝ }
-        ensures members { λ r. ⌜ ((k : ℕ) → has (r .mask) k ≡ (has (self .mask) k && not (eqb k (n .0)))) ⌝ }
+    // The set with t removed.
+    pub fn without(self, t: TransactionNumber) -> TransactionSet
+        ensures mask { λ r. ⌜ r .mask ≡ without-member 32 (self .mask) (t .0) ⌝ }
+        ensures members { λ r. ⌜ ((k : ℕ) → has (r .mask) k ≡ (has (self .mask) k && not (eqb k (t .0)))) ⌝ }
     {
-        if n.0 < 32 {
+        if t.0 < 32 {
             TransactionSet {
-                mask: self.mask & !(1 << n.0),
+                mask: self.mask & !(1 << t.0),
             }
         } else {
             self

@@ -18,8 +18,8 @@ use Rattle.basics.specs.Sets.{has}
 use Rattle.stores.specs.Store.{Store, set-value, may-put}
 use Rattle.stores.proofs.Stores.{same-store}
 use Rattle.image_model.specs.Image.{image-bit, number, signed, lowest, highest, within-field, with-field}
-use Rattle.image_model.specs.Fields.{Lies, leading, fits, field-value, or-nought, image-store}
-use Rattle.image_model.specs.ImageLaws.{leading-few, or-nought-past}
+use Rattle.image_model.specs.Fields.{Lies, leading, fits, field-value, or-zero, image-store}
+use Rattle.image_model.specs.ImageLaws.{leading-few, or-zero-past}
 use Rattle.image_model.proofs.Numbers.{number-is, number-same}
 
 leading-at : (nodes : List Node) (room n : ℕ) → n < length nodes → ltb n (leading nodes room) ≡ leb (field-start nodes (suc n)) room
@@ -76,8 +76,8 @@ fields-apart nodes m n l h =
 -- a put into the field of node n changes the value of n alone
 pub put-field : (nodes : List Node) (image after : List ℕ) (n start width u : ℕ) (v : ℤ) → ((k : ℕ) → k < length nodes → 2 ≤ node-at nodes k .width) → Lies nodes (8 * length image) n start width → length after ≡ length image → u < 2 ^ width → signed width u ≡ v → ((i : ℕ) → image-bit after i ≡ with-field (image-bit image) start width u i) → image-store nodes after ≡ set-value (image-store nodes image) n v
 put-field nodes image after n start width u v wide lies long small back bits = same-store _ _ counts values
-    (λ k. ap (λ c. or-nought c (λ m. lowest (node-at nodes m .width)) k) counts)
-    (λ k. ap (λ c. or-nought c (λ m. highest (node-at nodes m .width)) k) counts)
+    (λ k. ap (λ c. or-zero c (λ m. lowest (node-at nodes m .width)) k) counts)
+    (λ k. ap (λ c. or-zero c (λ m. highest (node-at nodes m .width)) k) counts)
   where
     counts : leading nodes (8 * length after) ≡ leading nodes (8 * length image)
     counts = ap (λ l. leading nodes (8 * l)) long
@@ -107,8 +107,8 @@ put-field nodes image after n start width u v wide lies long small back bits = s
     elsewhere k l ne = ap (signed (node-at nodes k .width)) (number-same (image-bit after) (image-bit image) (field-start nodes k) (node-at nodes k .width) (λ j h.
         bits (field-start nodes k + j) ∙ cond-false (within-field start width (field-start nodes k + j)) _ _ (apart k j l ne h)))
 
-    values : (k : ℕ) → or-nought (leading nodes (8 * length after)) (field-value nodes after) k ≡ cond (eqb k n) v (or-nought (leading nodes (8 * length image)) (field-value nodes image) k)
-    values k = ap (λ c. or-nought c (field-value nodes after) k) counts ∙ elim (cases-eq k n) [
+    values : (k : ℕ) → or-zero (leading nodes (8 * length after)) (field-value nodes after) k ≡ cond (eqb k n) v (or-zero (leading nodes (8 * length image)) (field-value nodes image) k)
+    values k = ap (λ c. or-zero c (field-value nodes after) k) counts ∙ elim (cases-eq k n) [
       | inl q ↦
           cond-true (ltb k (leading nodes (8 * length image))) _ _ (ap (λ m. ltb m (leading nodes (8 * length image))) q ∙ lies .leads)
           ∙ ap (field-value nodes after) q ∙ here ∙ sym (cond-true (eqb k n) v _ (eq-eqb k n q))
@@ -117,18 +117,18 @@ put-field nodes image after n start width u v wide lies long small back bits = s
             ap (λ z. cond (ltb k (leading nodes (8 * length image))) z (pos 0)) (elsewhere k (omega (arith, leading-few nodes (8 * length image))) ne)
             ∙ sym (cond-false (eqb k n) v _ (ne-eqb k n ne))
         | inr past ↦
-            or-nought-past (leading nodes (8 * length image)) (field-value nodes after) k past
-            ∙ sym (cond-false (eqb k n) v _ (ne-eqb k n ne) ∙ or-nought-past (leading nodes (8 * length image)) (field-value nodes image) k past)
+            or-zero-past (leading nodes (8 * length image)) (field-value nodes after) k past
+            ∙ sym (cond-false (eqb k n) v _ (ne-eqb k n ne) ∙ or-zero-past (leading nodes (8 * length image)) (field-value nodes image) k past)
       ]
     ]
 
 -- a value may be put where it fits the field
 pub takes-field : (nodes : List Node) (image : List ℕ) (n start width : ℕ) (v : ℤ) → Lies nodes (8 * length image) n start width → may-put (image-store nodes image) n v ≡ fits width v
 takes-field nodes image n start width v lies =
-    let low : or-nought count (λ m. lowest (node-at nodes m .width)) n ≡ lowest width = cond-true (ltb n count) _ _ (lies .leads) ∙ ap lowest (sym (lies .spans)) in
-    let high : or-nought count (λ m. highest (node-at nodes m .width)) n ≡ highest width = cond-true (ltb n count) _ _ (lies .leads) ∙ ap highest (sym (lies .spans)) in
-    ap (λ b. b && (leZ (or-nought count (λ m. lowest (node-at nodes m .width)) n) v && leZ v (or-nought count (λ m. highest (node-at nodes m .width)) n))) (lies .leads)
-    ∙ ap (λ z. leZ z v && leZ v (or-nought count (λ m. highest (node-at nodes m .width)) n)) low
+    let low : or-zero count (λ m. lowest (node-at nodes m .width)) n ≡ lowest width = cond-true (ltb n count) _ _ (lies .leads) ∙ ap lowest (sym (lies .spans)) in
+    let high : or-zero count (λ m. highest (node-at nodes m .width)) n ≡ highest width = cond-true (ltb n count) _ _ (lies .leads) ∙ ap highest (sym (lies .spans)) in
+    ap (λ b. b && (leZ (or-zero count (λ m. lowest (node-at nodes m .width)) n) v && leZ v (or-zero count (λ m. highest (node-at nodes m .width)) n))) (lies .leads)
+    ∙ ap (λ z. leZ z v && leZ v (or-zero count (λ m. highest (node-at nodes m .width)) n)) low
     ∙ ap (λ z. leZ (lowest width) v && leZ v z) high
   where
     count : ℕ

@@ -65,8 +65,8 @@ leading [] room = 0
 leading (x ∷ xs) room = cond (leb (x .width) room) (suc (leading xs (room - x .width))) 0
 
 -- where there is a field, what it has, else 0
-abbrev pub or-nought : ℕ → (ℕ → ℤ) → ℕ → ℤ
-or-nought count f n = cond (ltb n count) (f n) (pos 0)
+abbrev pub or-zero : ℕ → (ℕ → ℤ) → ℕ → ℤ
+or-zero count f n = cond (ltb n count) (f n) (pos 0)
 
 -- an image as a store: the nodes whose fields lie wholly in it
 abbrev pub image-store : List Node → List ℕ → Store
@@ -74,9 +74,9 @@ image-store nodes image =
     let count = leading nodes (8 * length image) in
     record {
       count = count;
-      values = or-nought count (field-value nodes image);
-      low = or-nought count (λ n. lowest (node-at nodes n .width));
-      high = or-nought count (λ n. highest (node-at nodes n .width));
+      values = or-zero count (field-value nodes image);
+      low = or-zero count (λ n. lowest (node-at nodes n .width));
+      high = or-zero count (λ n. highest (node-at nodes n .width));
     }
 
 -- the field of node n, of `width` bits from bit `start` on, lies wholly in this many bits

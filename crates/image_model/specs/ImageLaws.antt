@@ -20,7 +20,7 @@ use Rattle.plans.specs.Meaning.{nodes-of}
 use Rattle.plans.specs.Nodes.{no-node, node-at, field-start}
 use Rattle.stores.specs.Store.{Store, Small, Lawful}
 use Rattle.image_model.specs.Image.{image-bit, number, signed, lowest, highest}
-use Rattle.image_model.specs.Fields.{field-value, leading, or-nought, image-store}
+use Rattle.image_model.specs.Fields.{field-value, leading, or-zero, image-store}
 
 pub digit-small : (b : Bool) → cond b 1 0 < 2
 digit-small true = omega arith
@@ -60,8 +60,8 @@ lowest-small w s = let top = half w s in (omega (arith, ints), omega (arith, int
 highest-small : (w : ℕ) → w ≤ 16 → Small (highest w)
 highest-small w s = let top = half w s in (omega (arith, ints), omega (arith, ints))
 
-nought-small : Small (pos 0)
-nought-small = (leZ-yes tt, leZ-yes tt)
+zero-small : Small (pos 0)
+zero-small = (leZ-yes tt, leZ-yes tt)
 
 -- what holds of each node's width in a plan
 plan-width : (P : ℕ → Type 0) (p : Plan) → ((n : ℕ) → n < p .count → P (getD (p .nodes) n no-node .width)) → (n : ℕ) → n < length (nodes-of p) → P (node-at (nodes-of p) n .width)
@@ -75,21 +75,21 @@ plan-wide p = plan-width (λ w. 2 ≤ w) p (p .wide)
 pub plan-slim : (p : Plan) (n : ℕ) → n < length (nodes-of p) → node-at (nodes-of p) n .width ≤ 16
 plan-slim p = plan-width (λ w. w ≤ 16) p (p .slim)
 
-or-nought-small : (count : ℕ) (f : ℕ → ℤ) → ((n : ℕ) → n < count → Small (f n)) → (n : ℕ) → Small (or-nought count f n)
-or-nought-small count f small n = cond-both (ltb n count) (f n) (pos 0) Small (λ t. small n (ltb-true n count t)) (λ _. nought-small)
+or-zero-small : (count : ℕ) (f : ℕ → ℤ) → ((n : ℕ) → n < count → Small (f n)) → (n : ℕ) → Small (or-zero count f n)
+or-zero-small count f small n = cond-both (ltb n count) (f n) (pos 0) Small (λ t. small n (ltb-true n count t)) (λ _. zero-small)
 
-pub or-nought-past : (count : ℕ) (f : ℕ → ℤ) (n : ℕ) → count ≤ n → or-nought count f n ≡ pos 0
-or-nought-past count f n h = cond-false (ltb n count) (f n) (pos 0) (le-ltb n count h)
+pub or-zero-past : (count : ℕ) (f : ℕ → ℤ) (n : ℕ) → count ≤ n → or-zero count f n ≡ pos 0
+or-zero-past count f n h = cond-false (ltb n count) (f n) (pos 0) (le-ltb n count h)
 
 pub image-lawful : (p : Plan) (image : List ℕ) → Lawful (image-store (nodes-of p) image)
 image-lawful p image = record {
   few = omega (arith, few, length-take (p .count) (p .nodes), p .few);
-  small-value = or-nought-small count (field-value (nodes-of p) image) (λ n l. let below : n < length (nodes-of p) = omega (arith, few) in signed-small (node-at (nodes-of p) n .width) _ (plan-wide p n below) (plan-slim p n below) (number-lt (image-bit image) (field-start (nodes-of p) n) (node-at (nodes-of p) n .width)));
-  small-low = or-nought-small count (λ n. lowest (node-at (nodes-of p) n .width)) (λ n l. lowest-small _ (plan-slim p n (omega (arith, few))));
-  small-high = or-nought-small count (λ n. highest (node-at (nodes-of p) n .width)) (λ n l. highest-small _ (plan-slim p n (omega (arith, few))));
-  no-value = or-nought-past count (field-value (nodes-of p) image);
-  no-low = or-nought-past count (λ n. lowest (node-at (nodes-of p) n .width));
-  no-high = or-nought-past count (λ n. highest (node-at (nodes-of p) n .width));
+  small-value = or-zero-small count (field-value (nodes-of p) image) (λ n l. let below : n < length (nodes-of p) = omega (arith, few) in signed-small (node-at (nodes-of p) n .width) _ (plan-wide p n below) (plan-slim p n below) (number-lt (image-bit image) (field-start (nodes-of p) n) (node-at (nodes-of p) n .width)));
+  small-low = or-zero-small count (λ n. lowest (node-at (nodes-of p) n .width)) (λ n l. lowest-small _ (plan-slim p n (omega (arith, few))));
+  small-high = or-zero-small count (λ n. highest (node-at (nodes-of p) n .width)) (λ n l. highest-small _ (plan-slim p n (omega (arith, few))));
+  no-value = or-zero-past count (field-value (nodes-of p) image);
+  no-low = or-zero-past count (λ n. lowest (node-at (nodes-of p) n .width));
+  no-high = or-zero-past count (λ n. highest (node-at (nodes-of p) n .width));
 }
   where
     count : ℕ

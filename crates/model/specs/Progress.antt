@@ -1,4 +1,4 @@
--- A session never comes to a standstill.
+-- A session never deadlocks, and where all wait or are ended some waiting lock is granted when it is tried again.
 use mathlib.Core.Path.{_≡_}
 use mathlib.Core.List.{List, _∷_}
 use mathlib.Core.Logic.{_⊎_}

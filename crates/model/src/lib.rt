@@ -1,4 +1,5 @@
-// What a lock session means, and what holds of every session.
+// What a lock session means, and what holds of every session. The functions below carry the theorems: their contracts
+// are what is proved, and their results mean nothing.
 pub mod table;
 
 ghost use Rattle.model.specs.Consistent.{Every-session-consistent};
@@ -13,7 +14,7 @@ pub fn sessions_explained() -> u8
     0
 }
 
-// No session comes to a standstill.
+// No session comes to a deadlock, and where all wait or are ended some waiting lock is granted when it is tried again.
 pub fn sessions_progress() -> u8
     ensures { λ _. ⌜ Every-session-progresses ⌝ }
 {

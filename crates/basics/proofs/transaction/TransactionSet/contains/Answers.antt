@@ -7,9 +7,9 @@ use Rattle.std.proofs.shelf.Tests.{le-ltb}
 use Rattle.basics.proofs.Masks.{has-past}
 use Rattle.basics.proofs.transaction.TransactionSet.contains.Needs as need
 
-pub returns-then-n-lt32 : need.returns-then-n-lt32
-returns-then-n-lt32 c = ap (λ n. eqb n 1) (and-mask (c .args .self .mask / 2 ^ c .args .n .0) 1)
+pub returns-then-t-lt32 : need.returns-then-t-lt32
+returns-then-t-lt32 c = ap (λ n. eqb n 1) (and-mask (c .args .self .mask / 2 ^ c .args .t .0) 1)
 
-pub returns-else-n-lt32 : need.returns-else-n-lt32
-returns-else-n-lt32 c =
-    le-ltb (c .args .n .0) 32 (omega arith) ∙ sym (has-past 32 (c .args .self .mask) (c .args .n .0) (omega arith) (omega arith))
+pub returns-else-t-lt32 : need.returns-else-t-lt32
+returns-else-t-lt32 c =
+    le-ltb (c .args .t .0) 32 (omega arith) ∙ sym (has-past 32 (c .args .self .mask) (c .args .t .0) (omega arith) (omega arith))

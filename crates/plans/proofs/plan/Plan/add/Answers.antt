@@ -33,7 +33,7 @@ ghost-self c =
       (
         length-set (p .nodes) count new ∙ p .long,
         (
-          length-set (p .starts) (count + 1) (getD (p .starts) count 0 + c .args .width) ∙ p .ruled,
+          length-set (p .starts) (count + 1) (getD (p .starts) count 0 + c .args .width) ∙ p .marked,
           (
             each-more (λ n x. 2 ≤ x .width) no-node (p .nodes) count new room (p .wide) (ok .wide),
             (
