@@ -42,7 +42,7 @@ impl<'p, 'a> PackedStore<'p, 'a> {
         ensures { λ r. ⌜ now r ≡ now (self .entry .image) ⌝ }
     {
         let PackedStore { plan: _, image } = self;
-        image
+        image // as the puts have left it
     }
 }
 

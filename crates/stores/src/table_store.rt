@@ -71,7 +71,7 @@ pub impl NodeStore for TableStore as TableNodeStore {
     ghost lawful = { table-lawful };
 
     fn count(&self) -> u8 {
-        self.count
+        self.count // at most 64
     }
 
     fn value(&self, n: NodeNumber) -> i32 {
