@@ -1,0 +1,5 @@
+pub mod Lowest
+pub mod Orders
+pub mod Tables
+pub mod Walking
+pub mod Listing
