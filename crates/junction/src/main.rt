@@ -1,11 +1,19 @@
-// One task from beginning to end: a small junction's plan is built and shown, the engineer is told which rows a change
-// of phase six can touch, and changes a clearance time in the image that the lamps read.
+// One task from beginning to end: a small junction's plan is built and shown, a clearance time is changed in the image
+// that the lamps read, and two engineers change phase six at the same time.
+mod story;
+
+use crate::story::story;
+use crate::story::tell_order;
+use crate::story::tell_rows;
 use basics::node::NodeNumber;
 use basics::node::NodeNumberPartialEq;
 use images::pack::pack;
 use images::packed::PackedNodeStore;
 use images::packed::PackedStore;
 use plans::plan::Plan;
+use rules::tree::TreeLockRule;
+use rules::tree::TreeRule;
+use session::state::Session;
 use std::error::AnyError;
 use stores::store::NodeStore;
 
@@ -73,9 +81,9 @@ const ENTRIES: [Entry; 12] = [
         parents: &[NodeNumber(5)],
     },
     Entry {
-        name: "green of phase six",
+        name: "clearance of phase six",
         width: 8,
-        value: 60,
+        value: 20,
         parents: &[NodeNumber(8)],
     },
     Entry {
@@ -85,18 +93,20 @@ const ENTRIES: [Entry; 12] = [
         parents: &[NodeNumber(8)],
     },
     Entry {
-        name: "clearance of phases four and six",
+        name: "all red of phases four and six",
         width: 8,
         value: 20,
         parents: &[NodeNumber(6), NodeNumber(8)],
     },
 ];
 
-const PHASE_SIX: NodeNumber = NodeNumber(8);
+pub(crate) const PHASE_SIX: NodeNumber = NodeNumber(8);
 
-const CLEARANCE: NodeNumber = NodeNumber(11);
+pub(crate) const CLEARANCE: NodeNumber = NodeNumber(9);
 
-fn name(n: NodeNumber) -> &'static str {
+pub(crate) const TRUCKS: NodeNumber = NodeNumber(10);
+
+pub(crate) fn name(n: NodeNumber) -> &'static str {
     if n.0 < 12 {
         ENTRIES[n.0 as usize].name
     } else {
@@ -229,8 +239,13 @@ fn run(rt: &impl Print) -> Result<(), AnyError> {
     print!(rt, "The image of the plan:")?;
     show_image(rt, &plan, &page)?;
     let mut store = PackedStore::new(&plan, &mut page);
-    change(rt, &mut store, CLEARANCE, 50)?;
+    change(rt, &mut store, CLEARANCE, 30)?;
     change(rt, &mut store, CLEARANCE, 200)?;
+    let mut session = Session::new(TreeRule { plan: &plan }, store);
+    story(rt, &mut session)?;
+    tell_order(rt, &session)?;
+    let (_, store) = session.into_parts();
+    tell_rows(rt, &store)?;
     print!(rt, "The image of the plan now:")?;
     show_image(rt, &plan, store.into_image())
 }

@@ -24,12 +24,15 @@ impl Ticket {
     // Begins a transaction.
     pub fn open<R: LockRule, S: NodeStore>(session: &mut Session<R, S>) -> Result<Ticket, Refusal>
         ensures answers { λ r. ⌜ elim r [
-            Ok ticket ↦ answer (model-of rule store (now (session .entry))) calls.begin ≡ calls.done (pos (ticket .number .0))
-            | Err refusal ↦ answer (model-of rule store (now (session .entry))) calls.begin ≡ calls.refused refusal ] ⌝ }
+          | Ok ticket ↦ answer (model-of rule store (now (session .entry))) calls.begin ≡ calls.done (pos (ticket .number .0))
+          | Err refusal ↦ answer (model-of rule store (now (session .entry))) calls.begin ≡ calls.refused refusal
+        ] ⌝ }
         ensures leaves { λ _. ⌜ model-of rule store (now (session .exit)) ≡ after (model-of rule store (now (session .entry))) calls.begin (answer (model-of rule store (now (session .entry))) calls.begin) ⌝ }
     {
         match session.begin() {
-            Answer::Done(t) => Ok(Ticket { number: TransactionNumber(t as u8) }),
+            Answer::Done(t) => Ok(Ticket {
+                number: TransactionNumber(t as u8),
+            }),
             Answer::Refused(refusal) => Err(refusal),
             Answer::Waiting(_) => unreachable(),
         }
@@ -42,35 +45,57 @@ impl Ticket {
         self.number
     }
 
-    pub fn lock<R: LockRule, S: NodeStore>(&self, session: &mut Session<R, S>, n: NodeNumber) -> Answer
+    pub fn lock<R: LockRule, S: NodeStore>(
+        &self,
+        session: &mut Session<R, S>,
+        n: NodeNumber,
+    ) -> Answer
         ensures answers { λ r. ⌜ answer-of r ≡ answer (model-of rule store (now (session .entry))) (calls.lock (now (self .entry) .number .0) (n .0)) ⌝ }
         ensures leaves { λ r. ⌜ model-of rule store (now (session .exit)) ≡ after (model-of rule store (now (session .entry))) (calls.lock (now (self .entry) .number .0) (n .0)) (answer-of r) ⌝ }
     {
         session.lock(self.number, n)
     }
 
-    pub fn release<R: LockRule, S: NodeStore>(&self, session: &mut Session<R, S>, n: NodeNumber) -> Answer
+    pub fn release<R: LockRule, S: NodeStore>(
+        &self,
+        session: &mut Session<R, S>,
+        n: NodeNumber,
+    ) -> Answer
         ensures answers { λ r. ⌜ answer-of r ≡ answer (model-of rule store (now (session .entry))) (calls.release (now (self .entry) .number .0) (n .0)) ⌝ }
         ensures leaves { λ r. ⌜ model-of rule store (now (session .exit)) ≡ after (model-of rule store (now (session .entry))) (calls.release (now (self .entry) .number .0) (n .0)) (answer-of r) ⌝ }
     {
         session.release(self.number, n)
     }
 
-    pub fn read<R: LockRule, S: NodeStore>(&self, session: &mut Session<R, S>, n: NodeNumber) -> Answer
+    pub fn read<R: LockRule, S: NodeStore>(
+        &self,
+        session: &mut Session<R, S>,
+        n: NodeNumber,
+    ) -> Answer
         ensures answers { λ r. ⌜ answer-of r ≡ answer (model-of rule store (now (session .entry))) (calls.access (now (self .entry) .number .0) (n .0) calls.read) ⌝ }
         ensures leaves { λ r. ⌜ model-of rule store (now (session .exit)) ≡ after (model-of rule store (now (session .entry))) (calls.access (now (self .entry) .number .0) (n .0) calls.read) (answer-of r) ⌝ }
     {
         session.read(self.number, n)
     }
 
-    pub fn write<R: LockRule, S: NodeStore>(&self, session: &mut Session<R, S>, n: NodeNumber, v: i32) -> Answer
+    pub fn write<R: LockRule, S: NodeStore>(
+        &self,
+        session: &mut Session<R, S>,
+        n: NodeNumber,
+        v: i32,
+    ) -> Answer
         ensures answers { λ r. ⌜ answer-of r ≡ answer (model-of rule store (now (session .entry))) (calls.access (now (self .entry) .number .0) (n .0) (calls.write v)) ⌝ }
         ensures leaves { λ r. ⌜ model-of rule store (now (session .exit)) ≡ after (model-of rule store (now (session .entry))) (calls.access (now (self .entry) .number .0) (n .0) (calls.write v)) (answer-of r) ⌝ }
     {
         session.write(self.number, n, v)
     }
 
-    pub fn adjust<R: LockRule, S: NodeStore>(&self, session: &mut Session<R, S>, n: NodeNumber, d: i32) -> Answer
+    pub fn adjust<R: LockRule, S: NodeStore>(
+        &self,
+        session: &mut Session<R, S>,
+        n: NodeNumber,
+        d: i32,
+    ) -> Answer
         ensures answers { λ r. ⌜ answer-of r ≡ answer (model-of rule store (now (session .entry))) (calls.access (now (self .entry) .number .0) (n .0) (calls.adjust d)) ⌝ }
         ensures leaves { λ r. ⌜ model-of rule store (now (session .exit)) ≡ after (model-of rule store (now (session .entry))) (calls.access (now (self .entry) .number .0) (n .0) (calls.adjust d)) (answer-of r) ⌝ }
     {
