@@ -83,7 +83,7 @@ const ENTRIES: [Entry; 12] = [
     Entry {
         name: "clearance of phase six",
         width: 8,
-        value: 20,
+        value: 25,
         parents: &[NodeNumber(8)],
     },
     Entry {

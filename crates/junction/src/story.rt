@@ -5,7 +5,6 @@ use crate::PHASE_SIX;
 use crate::TRUCKS;
 use crate::name;
 use basics::node::NodeNumber;
-use basics::refusal::Refusal;
 use basics::transaction::TransactionNumber;
 use rules::rule::LockRule;
 use session::answer::Answer;
@@ -62,6 +61,10 @@ fn set<R: LockRule, S: NodeStore>(
     v: i32,
 ) -> Result<(), AnyError> {
     let answer = ticket.write(session, n, v);
+    if let Answer::Done(_) = answer {
+        println!(rt, "{} sets {} to {v}.", engineer(ticket.number()), name(n))?;
+        return Ok(());
+    }
     tell(rt, ticket, "sets", n, answer)
 }
 

@@ -42,7 +42,7 @@ impl Ticket {
     pub fn number(&self) -> TransactionNumber
         ensures { λ r. ⌜ r ≡ now (self .entry) .number ⌝ }
     {
-        self.number
+        self.number // as it was begun
     }
 
     pub fn lock<R: LockRule, S: NodeStore>(
