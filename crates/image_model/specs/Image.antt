@@ -25,7 +25,7 @@ bytes row (suc m) = bytes row m ++ (number row (8 * m) 8 ∷ [])
 abbrev pub signed : ℕ → ℕ → ℤ
 signed w u = cond (ltb u (2 ^ (w - 1))) (pos u) (pos u -ℤ pos (2 ^ w))
 
--- and back: the w bits of a number
+-- and back: the w bits of a number that lies in the range of w bits
 abbrev pub bits-of : ℕ → ℤ → ℕ
 bits-of w (pos n) = n
 bits-of w (negsuc n) = 2 ^ w - suc n

@@ -10,7 +10,7 @@ use Rattle.plans.specs.declared.plan.Node.{Node}
 abbrev pub no-node : Node
 no-node = record { width = 0; parents = record { mask = 0 } }
 
--- the node with the number n
+-- the node with the number n; past the end `no-node`
 abbrev pub node-at : List Node → ℕ → Node
 node-at nodes n = getD nodes n no-node
 
@@ -18,7 +18,7 @@ node-at nodes n = getD nodes n no-node
 abbrev pub is-parent : List Node → ℕ → ℕ → Bool
 is-parent nodes p n = has (node-at nodes n .parents .mask) p
 
--- the bits of all nodes below n together: where the field of node n starts in an image
+-- the bits of all nodes with smaller numbers together: where the field of node n starts in an image
 abbrev pub field-start : List Node → ℕ → ℕ
 field-start [] n = 0
 field-start (x ∷ xs) zero = 0

@@ -76,7 +76,8 @@ impl Plan {
         self.node(n).parents
     }
 
-    // The bit of an image at which the node's field starts: the widths of all lower nodes together.
+    // The bit of an image at which the node's field starts: the widths of all lower nodes together. At or beyond the count,
+    // where the last field ends.
     pub fn start(&self, n: NodeNumber) -> u16
         ensures { λ r. ⌜ r ≡ field-start (nodes-of (now (self .entry))) (n .0) ⌝ }
     {

@@ -10,7 +10,7 @@ use Rattle.rules.specs.declared.guard.Guard.{Guard}
 abbrev pub no-guard : Guard
 no-guard = record { node = record { 0 = 0 }; a = record { mask = 0 }; b = record { mask = 0 } }
 
--- A was locked and B is held
+-- the guard is of node n, A was locked and B is held
 abbrev pub admits : Guard → ℕ → ℕ → ℕ → Bool
 admits g n locked held = eqb (g .node .0) n && (within (g .a .mask) locked && within (g .b .mask) held)
 

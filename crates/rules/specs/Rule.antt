@@ -17,7 +17,8 @@ pub record Rule : Type 0 where
   pub no-lock : (n locked held : ℕ) → count ≤ n → allows n locked held ≡ false
   -- every parent is lower than its node
   pub lower : (n p : ℕ) → has (parents n) p ≡ true → p < n
-  -- the intersection law: of two that may lock n, neither as its first node, the first has locked a parent of n that
+  -- the intersection law: of two that may lock n, neither as its first node and each holding only what it has locked,
+  -- the first has locked a parent of n that
   -- the second holds
   pub intersect :
       (n locked₁ held₁ locked₂ held₂ : ℕ) →

@@ -115,13 +115,18 @@ waiters-up p t zero = let e : t ≡ t + 0 = omega arith in omega (arith, ap (wai
 waiters-up p t (suc k) = let e : suc (t + k) ≡ t + suc k = omega arith in omega (arith, ap (waiters p) e, waiters-up p t k)
 
 -- a transaction that waits counts
-pub waiters-less : (p : ℕ → Phase) (t n m : ℕ) → t < n → p t ≡ Waiting (node m) → waiters p t + 1 ≤ waiters p n
+waiters-less : (p : ℕ → Phase) (t n m : ℕ) → t < n → p t ≡ Waiting (node m) → waiters p t + 1 ≤ waiters p n
 waiters-less p t n m h w =
     let e : suc t + (n - suc t) ≡ n = omega arith in
     let one : _≡_ {A = ℕ} (cond (is-waiting (p t)) 1 0) 1 = ap (λ x. cond (is-waiting x) 1 0) w in
     let up : waiters p t + cond (is-waiting (p t)) 1 0 ≤ waiters p (suc t + (n - suc t)) = waiters-up p (suc t) (n - suc t) in
     let same : waiters p (suc t + (n - suc t)) ≡ waiters p n = ap (waiters p) e in
     omega arith
+
+-- where a transaction waits, a buffer with room for all has room for its two bytes
+pub two-fit : (s : State) (t m place len : ℕ) → t < begun-count s → phase s t ≡ Waiting (node m)
+    → place ≡ 2 * waiters (phase s) t → 2 * waiting-count s ≤ len → place + 1 < len
+two-fit s t m place len h w e long = omega (arith, waiters-less (phase s) t (begun-count s) m h w)
 
 -- a write of two bytes
 pub two-more : (out : List ℕ) (i x y : ℕ) → i + 1 < length out → take (i + 2) (set (set out i x) (i + 1) y) ≡ take i out ++ (x ∷ (y ∷ []))

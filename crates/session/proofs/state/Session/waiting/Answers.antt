@@ -12,33 +12,26 @@ use Rattle.std.proofs.shelf.Lists.{length-set}
 use Rattle.session.specs.Of.{model-of}
 use Rattle.session.specs.Reports.{short, waiting-count}
 use Rattle.session.proofs.Orders.{long-enough}
-use Rattle.session.proofs.Listing.{listing, waiters, waiters-less, waiters-more, waiters-same, pair-none, two-rest, listing-more, listing-same, listing-ends, listing-filled}
+use Rattle.session.proofs.Listing.{listing, waiters, two-fit, waiters-more, waiters-same, pair-none, two-rest, listing-more, listing-same, listing-ends, listing-filled}
 use Rattle.session.proofs.state.Session.waiting.Needs as need
 
--- two more bytes fit
-room : (g : _) (c : need.In-Waiting g) → c .loop-t .place + 1 < length (c .loop-t .buffer)
-room g c =
-    let m = model-of (g .R·LockRule .rule) (g .S·NodeStore .store) (c .args .self .now) in
-    let less = waiters-less (phase m) (c .loop-t .t) (begun-count m) (c .in-Waiting .n .0) (omega arith) (c .in-Waiting .is) in
-    omega (arith, c .loop-t .inv .2)
-
 pub index-buffer-place : need.index-buffer-place
-index-buffer-place g c = omega (arith, room g c)
+index-buffer-place g c = omega (arith, two-fit (model-of (g .R·LockRule .rule) (g .S·NodeStore .store) (c .args .self .now)) (c .loop-t .t) (c .in-Waiting .n .0) (c .loop-t .place) (length (c .loop-t .buffer)) (omega arith) (c .in-Waiting .is) (c .loop-t .inv .2) (omega arith))
 
 pub add-buffer : need.add-buffer
-add-buffer g c = omega (arith, room g c)
+add-buffer g c = omega (arith, two-fit (model-of (g .R·LockRule .rule) (g .S·NodeStore .store) (c .args .self .now)) (c .loop-t .t) (c .in-Waiting .n .0) (c .loop-t .place) (length (c .loop-t .buffer)) (omega arith) (c .in-Waiting .is) (c .loop-t .inv .2) (omega arith))
 
 pub index-buffer-place-in-loop-t : need.index-buffer-place-in-loop-t
-index-buffer-place-in-loop-t g c = simp length-set (room g c)
+index-buffer-place-in-loop-t g c = simp length-set (two-fit (model-of (g .R·LockRule .rule) (g .S·NodeStore .store) (c .args .self .now)) (c .loop-t .t) (c .in-Waiting .n .0) (c .loop-t .place) (length (c .loop-t .buffer)) (omega arith) (c .in-Waiting .is) (c .loop-t .inv .2) (omega arith))
 
 pub add-place : need.add-place
-add-place g c = omega (arith, room g c)
+add-place g c = omega (arith, two-fit (model-of (g .R·LockRule .rule) (g .S·NodeStore .store) (c .args .self .now)) (c .loop-t .t) (c .in-Waiting .n .0) (c .loop-t .place) (length (c .loop-t .buffer)) (omega arith) (c .in-Waiting .is) (c .loop-t .inv .2) (omega arith))
 
 pub loop-t-again : need.loop-t-again
 loop-t-again g c =
     let m = model-of (g .R·LockRule .rule) (g .S·NodeStore .store) (c .args .self .now) in
     let L = listing (phase m) 0 (begun-count m) in (
-      listing-more (phase m) (begun-count m) (c .loop-t .t) (c .loop-t .place) L (c .loop-t .buffer) (c .loop-t .inv .0) (c .in-Waiting .n .0) (omega arith) (room g c) (c .in-Waiting .is),
+      listing-more (phase m) (begun-count m) (c .loop-t .t) (c .loop-t .place) L (c .loop-t .buffer) (c .loop-t .inv .0) (c .in-Waiting .n .0) (omega arith) (two-fit (model-of (g .R·LockRule .rule) (g .S·NodeStore .store) (c .args .self .now)) (c .loop-t .t) (c .in-Waiting .n .0) (c .loop-t .place) (length (c .loop-t .buffer)) (omega arith) (c .in-Waiting .is) (c .loop-t .inv .2) (omega arith)) (c .in-Waiting .is),
       two-rest (c .loop-t .buffer) (c .args .buffer .now) (c .loop-t .place) (c .loop-t .t) (c .in-Waiting .n .0) (c .loop-t .inv .1),
       omega (arith, c .loop-t .inv .2, waiters-more (phase m) (c .loop-t .t) (c .in-Waiting .n .0) (c .in-Waiting .is)),
     )

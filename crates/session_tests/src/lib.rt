@@ -1,0 +1,3 @@
+// Tests of the lock session over a tree of four nodes.
+#[cfg(test)]
+mod tests;
