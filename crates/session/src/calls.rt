@@ -5,7 +5,7 @@ ghost use Prim.Native.Nat.{_<_};
 ghost use Rattle.std.specs.declared.option.Option.the-variants.{None};
 ghost use Rattle.model.specs.Calls.{first-refusal};
 ghost use Rattle.model.specs.Calls as calls;
-ghost use Rattle.model.specs.Checks.{use-checks, answer};
+ghost use Rattle.model.specs.Checks.{lock-checks, use-checks, answer};
 ghost use Rattle.model.specs.State.{count};
 ghost use Rattle.model.specs.Step.{after, freed as holder-freed};
 ghost use Rattle.session.specs.Of.{model-of, answer-of};
@@ -35,13 +35,13 @@ impl<R: LockRule, S: NodeStore> Session<R, S> {
         Answer::Done(t as i32)
     }
 
-    // Locks n for t, or has t wait for it where another holds it.
-    pub fn lock(&mut self, t: TransactionNumber, n: NodeNumber) -> Answer
-        ensures answers { λ r. ⌜ answer-of r ≡ answer (model-of rule store (now (self .entry))) (calls.lock (t .0) (n .0)) ⌝ }
-        ensures leaves { λ r. ⌜ model-of rule store (now (self .exit)) ≡ after (model-of rule store (now (self .entry))) (calls.lock (t .0) (n .0)) (answer-of r) ⌝ }
+    // Why t may not lock n.
+    fn lock_refusal(&self, t: TransactionNumber, n: NodeNumber) -> Option<Refusal>
+        ensures refuses { λ r. ⌜ r ≡ first-refusal (lock-checks (model-of rule store (now (self .entry))) (t .0) (n .0)) ⌝ }
+        ensures fits { λ r. ⌜ (r ≡ None → (t .0 < 32) × (n .0 < count (model-of rule store (now (self .entry))))) ⌝ }
     {
         if t.0 >= self.begun_count() {
-            return Answer::Refused(Refusal::NotBegun);
+            return Some(Refusal::NotBegun);
         }
         let i = t.0 as usize;
         let Record {
@@ -50,22 +50,34 @@ impl<R: LockRule, S: NodeStore> Session<R, S> {
             held,
         } = self.records[i];
         if let Phase::Ended = phase {
-            return Answer::Refused(Refusal::AlreadyEnded);
+            return Some(Refusal::AlreadyEnded);
         }
         if n.0 >= self.count() {
-            return Answer::Refused(Refusal::NoSuchNode);
+            return Some(Refusal::NoSuchNode);
         }
         if let Phase::Waiting(m) = phase
             && m.0 != n.0
         {
-            return Answer::Refused(Refusal::StillWaiting);
+            return Some(Refusal::StillWaiting);
         }
         if locked.contains(n) {
-            return Answer::Refused(Refusal::LockedBefore);
+            return Some(Refusal::LockedBefore);
         }
         if !self.rule.allows(n, locked, held) {
-            return Answer::Refused(Refusal::RuleDenies);
+            return Some(Refusal::RuleDenies);
         }
+        None
+    }
+
+    // Locks n for t, or has t wait for it where another holds it.
+    pub fn lock(&mut self, t: TransactionNumber, n: NodeNumber) -> Answer
+        ensures answers { λ r. ⌜ answer-of r ≡ answer (model-of rule store (now (self .entry))) (calls.lock (t .0) (n .0)) ⌝ }
+        ensures leaves { λ r. ⌜ model-of rule store (now (self .exit)) ≡ after (model-of rule store (now (self .entry))) (calls.lock (t .0) (n .0)) (answer-of r) ⌝ }
+    {
+        if let Some(cause) = self.lock_refusal(t, n) {
+            return Answer::Refused(cause);
+        }
+        let i = t.0 as usize;
         let k = n.0 as usize;
         match (&mut self.records[i], self.holders[k]) {
             (record, Some(u)) => {
@@ -75,8 +87,8 @@ impl<R: LockRule, S: NodeStore> Session<R, S> {
             (record, None) => {
                 *record = Record {
                     phase: Phase::Open,
-                    locked: locked.with(n),
-                    held: held.with(n),
+                    locked: record.locked.with(n),
+                    held: record.held.with(n),
                 };
                 self.holders[k] = Some(t);
                 self.earlier[i] = self.earlier[i].union(self.lockers[k]);
