@@ -1,5 +1,5 @@
 // Two engineers change phase six at the same time: Anna lets long trucks in and gives them five seconds to clear, Ben
-// bars them and gives two. Either is safe; a row from each would let trucks in with two seconds.
+// bars them and gives two. Either is safe; Anna's trucks with Ben's clearance would let them in with two seconds.
 use crate::CLEARANCE;
 use crate::PHASE_SIX;
 use crate::TRUCKS;

@@ -1,4 +1,5 @@
--- A session never deadlocks, and where all wait or are ended some waiting lock is granted when it is tried again.
+-- A session never deadlocks, and where each is ended or waits, and one waits, some waiting
+-- lock is granted when it is tried again.
 use mathlib.Core.Path.{_≡_}
 use mathlib.Core.List.{List, _∷_}
 use mathlib.Core.Logic.{_⊎_}

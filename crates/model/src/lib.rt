@@ -14,14 +14,15 @@ pub fn sessions_explained() -> u8
     0
 }
 
-// No session comes to a deadlock, and where all wait or are ended some waiting lock is granted when it is tried again.
+// No session deadlocks, and where each transaction is ended or waits, and one waits, some waiting lock is granted when
+// it is tried again.
 pub fn sessions_progress() -> u8
     ensures { λ _. ⌜ Every-session-progresses ⌝ }
 {
     0
 }
 
-// The tables of every session agree with one another.
+// The tables of every session agree with one another and with its history.
 pub fn sessions_consistent() -> u8
     ensures { λ _. ⌜ Every-session-consistent ⌝ }
 {

@@ -18,8 +18,7 @@ pub record Rule : Type 0 where
   -- every parent is lower than its node
   pub lower : (n p : ℕ) → has (parents n) p ≡ true → p < n
   -- the intersection law: of two that may lock n, neither as its first node and each holding only what it has locked,
-  -- the first has locked a parent of n that
-  -- the second holds
+  -- the first has locked a parent of n that the second holds
   pub intersect :
       (n locked₁ held₁ locked₂ held₂ : ℕ) →
       (locked₁ ≡ 0 → ⊥) → within held₁ locked₁ ≡ true → allows n locked₁ held₁ ≡ true →

@@ -16,7 +16,7 @@ from s calls = run (record { state = s; log = [] }) calls
 abbrev pub Always-explained : Store → State → Type 0
 Always-explained first s = (calls : List Call) → Run-explained first (from s calls)
 
--- it never comes to a standstill
+-- it never deadlocks, and a waiting lock can always be tried again
 abbrev pub Always-progresses : State → Type 0
 Always-progresses s = (calls : List Call) → Progress (from s calls .state)
 

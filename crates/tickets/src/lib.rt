@@ -1,4 +1,4 @@
-// Tickets: a terminal's hold on one transaction of a session.
+// Tickets: each stands for one transaction of a session and has to be closed, once.
 ghost use mathlib.Core.Path.{_≡_};
 ghost use lib.IntN.{pos};
 ghost use Rattle.std.specs.declared.result.Result.the-variants.{Ok, Err};
