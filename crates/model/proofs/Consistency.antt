@@ -13,9 +13,13 @@ use Rattle.model.proofs.Locking.{held-locked}
 use Rattle.model.proofs.Inv.{view, Inv}
 use Rattle.model.proofs.Steps.{every-run}
 use Rattle.model.proofs.Explains.{holder-begun}
+use Rattle.model.proofs.Standings.{Told, every-run-told}
 
-consistent : (first : Store) (h : List Event) (s : State) → Inv first s (lockers-of h) (accesses h) → Consistent h s
-consistent first h s i = record {
+consistent : (first : Store) (h : List Event) (s : State) → Inv first s (lockers-of h) (accesses h) → Told (record { state = s; log = h }) → Consistent h s
+consistent first h s i told = record {
+  phase-is = told .phases;
+  holder-is = told .holders;
+  begun-is = told .begun;
   few = i .few;
   long-records = i .long-records;
   long-holders = i .long-holders;
@@ -34,4 +38,4 @@ consistent first h s i = record {
 }
 
 pub every-session-consistent : Every-session-consistent
-every-session-consistent rule store cs = consistent store (session rule store cs .log) (session rule store cs .state) (every-run rule store cs)
+every-session-consistent rule store cs = consistent store (session rule store cs .log) (session rule store cs .state) (every-run rule store cs) (every-run-told rule store cs)

@@ -1,7 +1,7 @@
 -- What holds of a session explains it.
 use mathlib.Core.Path.{_≡_, refl, sym, _∙_, ap}
 use mathlib.Core.List.{List, _∷_}
-use mathlib.Core.Logic.{inl, inr, _↔_}
+use mathlib.Core.Logic.{inl, inr, _⊎_, _↔_}
 use mathlib.Core.Bool.{_&&_}
 use Prim.Native.Nat.{ℕ, _<_}
 use native.Mathlib.Omega.{arith}
@@ -24,6 +24,7 @@ use Rattle.model.specs.Order.{holder-set, waited-for, predecessors, serial-ord
 use Rattle.model.specs.History.{accesses, lockers-of}
 use Rattle.model.specs.Replay.{serial}
 use Rattle.model.specs.Explained.{Precedes, Explained, Every-session-explained}
+use Rattle.model.proofs.Standings.{Told, every-run-told}
 use Rattle.model.proofs.Lists.{before-left, before-right, before-trans, before-irrefl}
 use Rattle.model.proofs.Members.{_∈_, lacks}
 use Rattle.model.proofs.Traces.{at-node, same-by-one}
@@ -46,6 +47,16 @@ holder-set-is (Some v) u b = elim (or-cases (has 0 u) (eqb u (v .0) && ltb u 32)
 
 in-holder-set : (o : Option TransactionNumber) (u : ℕ) → u < 32 → o ≡ Some (transaction u) → u ∈ holder-set o
 in-holder-set o u l e = rw e (with-members 32 0 u u l .1 (inr refl))
+
+-- the same as `Precedes`, in the words of the tables
+abbrev Ahead : List Event → State → ℕ → ℕ → Type 0
+Ahead h s u t = (u ≡ t → ⊥) × (((n : ℕ) × Before u t (lockers-of h n)) ⊎ ((n : ℕ) × Waits s t n × Holds s u n))
+
+ahead-told : (h : List Event) (s : State) → Told (record { state = s; log = h }) → (u t : ℕ) → Ahead h s u t ↔ Precedes h u t
+ahead-told h s told u t = (
+  λ (f, p). (f, elim p [ inl c ↦ inl c | inr (n, w, e) ↦ inr (n, sym (told .phases t) ∙ w, sym (told .holders n) ∙ e) ]),
+  λ (f, p). (f, elim p [ inl c ↦ inl c | inr (n, w, e) ↦ inr (n, told .phases t ∙ w, told .holders n ∙ e) ]),
+)
 
 module _ (first : Store) (h : List Event) (s : State) (i : Inv first s (lockers-of h) (accesses h)) where
   abbrev v : View
@@ -71,13 +82,13 @@ module _ (first : Store) (h : List Event) (s : State) (i : Inv first s (lockers-
   lockers-apart : (n u t : ℕ) → Before u t (lockers-of h n) → u ≡ t → ⊥
   lockers-apart n u t b q = before-irrefl (lockers-of h n) t (i .kept .descending .distinct n) (rw q at b)
 
-  precedes-begun : (u t : ℕ) → Precedes h s u t → (u < s .begun) × (t < s .begun)
+  precedes-begun : (u t : ℕ) → Ahead h s u t → (u < s .begun) × (t < s .begun)
   precedes-begun u t p = elim (p .1) [
     | inl (n, b) ↦ (i .begun-is n u (before-left _ u t b), i .begun-is n t (before-right _ u t b))
     | inr (n, w, e) ↦ (holder-begun n u e, i .asks t n w .0)
   ]
 
-  reported : (u t : ℕ) → (u ∈ bitOr (earlier-than s t) (waited-for s (phase s t))) ↔ Precedes h s u t
+  reported : (u t : ℕ) → (u ∈ bitOr (earlier-than s t) (waited-for s (phase s t))) ↔ Ahead h s u t
   reported u t = (
     λ b. elim (or-members (earlier-than s t) (waited-for s (phase s t)) u .0 b) [
       | inl c ↦ let (n, d) = i .earlier-is t u .0 c in (lockers-apart n u t d, inl (n, d))
@@ -89,7 +100,7 @@ module _ (first : Store) (h : List Event) (s : State) (i : Inv first s (lockers-
     ]),
   )
 
-  report : (u t : ℕ) → (u ∈ predecessors s t) ↔ Precedes h s u t
+  report : (u t : ℕ) → (u ∈ predecessors s t) ↔ Ahead h s u t
   report u t = elim (cases-bool (ltb t (begun-count s))) [
     | inl e ↦ rw (cond-true (ltb t (begun-count s)) (bitOr (earlier-than s t) (waited-for s (phase s t))) 0 e) (reported u t)
     | inr e ↦ rw (cond-false (ltb t (begun-count s)) (bitOr (earlier-than s t) (waited-for s (phase s t))) 0 e) (
@@ -114,7 +125,7 @@ module _ (first : Store) (h : List Event) (s : State) (i : Inv first s (lockers-
   placed : Placed (predecessors s) (s .begun) 0 (serial-order s)
   placed = rw (all-begun s (i .few)) (all-placed (predecessors s) (s .begun) (i .few) (λ u t b. precedes-begun u t (report u t .0 b) .0) least)
 
-  follows : (u t : ℕ) → Precedes h s u t → Before u t (serial-order s)
+  follows : (u t : ℕ) → Ahead h s u t → Before u t (serial-order s)
   follows u t p =
       let j : In t (serial-order s) = placed .all t (precedes-begun u t p .1) (no-member t) in
       elim (placed .after u t j (report u t .1 p)) [ inl b ↦ absurd (no-member u b) | inr b ↦ b ]
@@ -126,18 +137,18 @@ module _ (first : Store) (h : List Event) (s : State) (i : Inv first s (lockers-
       (λ u w b c. before-irrefl (serial-order s) w (placed .once)
       (before-trans (serial-order s) w u w (placed .once) b (follows u w (lockers-apart n u w c, inl (n, c)))))
 
-  pub explained : Explained first h s (serial-order s)
-  explained = record {
+  pub explained : Told (record { state = s; log = h }) → Explained first h s (serial-order s)
+  explained told = record {
     once = placed .once;
     all = λ t. (λ j. placed .fresh t j .0, λ l. placed .all t l (no-member t));
     whole = i .owned;
     answers = right-answers (serial (serial-order s) (accesses h)) first (right-over first (accesses h) (serial (serial-order s) (accesses h)) same (i .right));
     values = λ n. values-over first (accesses h) (serial (serial-order s) (accesses h)) same n ∙ ap (λ x. x .values n) (i .same-store);
     waits = λ t n u w e. follows u t (waiting-apart t n u w e, inr (n, w, e));
-    follows = follows;
-    report = report;
+    follows = λ u t p. follows u t (ahead-told h s told u t .1 p);
+    report = λ u t. (λ b. ahead-told h s told u t .0 (report u t .0 b), λ p. report u t .1 (ahead-told h s told u t .1 p));
     none = λ t l. has-empty (predecessors s t) (λ u. lacks (predecessors s t) u (λ b. omega (arith, l, precedes-begun u t (report u t .0 b) .1)));
   }
 
 pub every-session-explained : Every-session-explained
-every-session-explained rule store cs = explained store (session rule store cs .log) (session rule store cs .state) (every-run rule store cs)
+every-session-explained rule store cs = explained store (session rule store cs .log) (session rule store cs .state) (every-run rule store cs) (every-run-told rule store cs)

@@ -15,6 +15,7 @@ pub mod Inv
 pub mod Changes
 pub mod Grants
 pub mod Steps
+pub mod Standings
 pub mod Waiters
 pub mod Explains
 pub mod Progresses

@@ -24,6 +24,7 @@ use Rattle.model.proofs.Refusing.{none-applies}
 use Rattle.model.proofs.Inv.{Inv}
 use Rattle.model.proofs.Steps.{every-run}
 use Rattle.model.proofs.Waiters.{waiters, want, waiters-wait, is-waiter, free-or-held}
+use Rattle.model.proofs.Standings.{Told, every-run-told}
 use Rattle.model.proofs.Explains.{holder-begun, explained}
 
 -- none of X is in a list where each of X has one of X before it
@@ -42,9 +43,9 @@ no-first X (y ∷ L) a prev t x j = elim j [
     later : (v : ℕ) → (u : ℕ) × X u × Before u v (y ∷ L) → (u : ℕ) × X u × Before u v L
     later v (u, z, b) = elim b [ inl c ↦ absurd (head (rw (c .0) at z)) | inr c ↦ (u, z, c) ]
 
-module _ (first : Store) (h : List Event) (s : State) (i : Inv first s (lockers-of h) (accesses h)) where
+module _ (first : Store) (h : List Event) (s : State) (i : Inv first s (lockers-of h) (accesses h)) (told : Told (record { state = s; log = h })) where
   x : Explained first h s (serial-order s)
-  x = explained first h s i
+  x = explained first h s i told
 
   again : (t n : ℕ) → Waits s t n → answer s (lock t n) ≡ grant-or-wait (holder s n)
   again t n w =
@@ -82,4 +83,4 @@ module _ (first : Store) (h : List Event) (s : State) (i : Inv first s (lockers-
   progress = record { again = again; no-deadlock = no-deadlock; goes-on = goes-on }
 
 pub every-session-progresses : Every-session-progresses
-every-session-progresses rule store cs = progress store (session rule store cs .log) (session rule store cs .state) (every-run rule store cs)
+every-session-progresses rule store cs = progress store (session rule store cs .log) (session rule store cs .state) (every-run rule store cs) (every-run-told rule store cs)

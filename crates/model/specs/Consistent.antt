@@ -11,7 +11,8 @@ use Rattle.stores.specs.Store.{Store}
 use Rattle.model.specs.declared.table.Phase.the-variants.{Ended}
 use Rattle.model.specs.Lists.{In, Before}
 use Rattle.model.specs.Calls.{Call, Event}
-use Rattle.model.specs.State.{State, phase, locked, held, lockers-at, earlier-than, count, Waits, Holds}
+use Rattle.model.specs.Standing.{phase-in, holder-in, begun-in}
+use Rattle.model.specs.State.{State, phase, holder, locked, held, lockers-at, earlier-than, count, Waits, Holds}
 use Rattle.model.specs.Step.{Run, session}
 use Rattle.model.specs.History.{lockers-of}
 
@@ -32,6 +33,10 @@ pub record Consistent (h : List Event) (s : State) : Type 0 where
   pub ended-empty : (t : ℕ) → phase s t ≡ Ended → held s t ≡ 0
   -- who waits is begun, and waits for a node of the session that it never locked
   pub waits-new : (t n : ℕ) → Waits s t n → (t < s .begun) × (n < count s) × (has (locked s t) n ≡ true → ⊥)
+  -- how each transaction stands, who holds each node and how many are begun is what the history tells
+  pub phase-is : (t : ℕ) → phase s t ≡ phase-in h t
+  pub holder-is : (n : ℕ) → holder s n ≡ holder-in h n
+  pub begun-is : s .begun ≡ begun-in h
   -- the sets tell the history of locks
   pub locked-is : (t n : ℕ) → (has (locked s t) n ≡ true) ↔ In t (lockers-of h n)
   pub lockers-is : (t n : ℕ) → (has (lockers-at s n) t ≡ true) ↔ In t (lockers-of h n)

@@ -13,12 +13,13 @@ use Rattle.model.specs.State.{State, Waits, Holds}
 use Rattle.model.specs.Step.{Run, session}
 use Rattle.model.specs.Order.{predecessors, serial-order}
 use Rattle.model.specs.History.{lockers-of, accesses}
+use Rattle.model.specs.Standing.{Waits-in, Holds-in}
 use Rattle.model.specs.Replay.{Below, serial, replay, replay-answers}
 
--- u locked some node before t did, or t waits for a node that u holds
-abbrev pub Precedes : List Event → State → ℕ → ℕ → Type 0
-Precedes h s u t =
-    (u ≡ t → ⊥) × (((n : ℕ) × Before u t (lockers-of h n)) ⊎ ((n : ℕ) × Waits s t n × Holds s u n))
+-- in the history h another, u, locked some node before t locked it, or t waits at its end for a node that u holds
+abbrev pub Precedes : List Event → ℕ → ℕ → Type 0
+Precedes h u t =
+    (u ≡ t → ⊥) × (((n : ℕ) × Before u t (lockers-of h n)) ⊎ ((n : ℕ) × Waits-in h t n × Holds-in h u n))
 
 -- a history h that began with the store `first` and led to the session s is explained by the order L
 pub record Explained (first : Store) (h : List Event) (s : State) (L : List ℕ) : Type 0 where
@@ -34,9 +35,9 @@ pub record Explained (first : Store) (h : List Event) (s : State) (L : List ℕ)
   -- whoever waits for a node comes after its holder
   pub waits : (t n u : ℕ) → Waits s t n → Holds s u n → Before u t L
   -- each comes after all that precede it
-  pub follows : (u t : ℕ) → Precedes h s u t → Before u t L
+  pub follows : (u t : ℕ) → Precedes h u t → Before u t L
   -- the predecessors that the session reports are those that precede
-  pub report : (u t : ℕ) → (has (predecessors s t) u ≡ true) ↔ Precedes h s u t
+  pub report : (u t : ℕ) → (has (predecessors s t) u ≡ true) ↔ Precedes h u t
   -- none, of a transaction that is not begun
   pub none : (t : ℕ) → s .begun ≤ t → predecessors s t ≡ 0
 

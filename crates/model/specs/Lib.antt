@@ -1,5 +1,6 @@
 pub mod Lists
 pub mod Calls
+pub mod Standing
 pub mod State
 pub mod Checks
 pub mod Step
