@@ -21,7 +21,10 @@ impl PartialEq for NodeSet {
 
     ghost laws = { Prim.search (comparing, rules) };
 
-    fn eq(&self, other: &NodeSet) -> bool {
+    fn eq(&self, other: &NodeSet) -> bool
+        ensures mask { result ≡ (self.now.mask == other.now.mask) }
+        ensures members { (result ≡ true) ↔ ((k : ℕ) → has self.now.mask k ≡ has other.now.mask k) }
+    {
         self.mask == other.mask
     }
 }

@@ -1,4 +1,6 @@
 // Cases at the edges, worked out over the definitions that the other crates' contracts cite.
+#![tactic(auto)]
+
 ghost use Rattle.edge_cases.specs.Rules.{MajorityOfFour, GuardsStandApart, GuardsMeet};
 ghost use Rattle.edge_cases.specs.Sessions.{WidestAdjustment};
 ghost use Rattle.edge_cases.specs.Stores.{ImageOfTwo, Narrow, Wide};

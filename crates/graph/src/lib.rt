@@ -1,5 +1,7 @@
 // The points of a finite graph that walks reach from a set of points. A graph has at most 64 points, 0 to 63, and a
 // set of points is a mask: bit i stands for point i. The points may be nodes in one graph and transactions in another.
+#![tactic(auto)]
+
 ghost use Rattle.std.specs.Prelude.{◌≡◌, ℕ, ◌<◌, Bool, true, false, MatchOption};
 ghost use Rattle.basics.specs.Sets.{has, with_member};
 ghost use Rattle.graph.specs.Walks.{Reached};
@@ -43,7 +45,7 @@ fn next_point(seen: u64, followed: u64) -> Option<u8>
 
 // The points that a walk from a point of `start` reaches, those of `start` among them.
 pub fn reach<G: Graph>(graph: &G, start: u64) -> u64
-    ensures { Reached (edge graph.now) start result }
+    ensures { Reached (G.edge graph.now) start result }
 {
     let mut seen = start;
     let mut followed = 0;

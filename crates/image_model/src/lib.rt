@@ -1,1 +1,2 @@
 // What the packed image of a plan means, and its laws: definitions and proofs, no code.
+#![tactic(auto)]

@@ -1,3 +1,5 @@
 // Tests of the packed image.
+#![tactic(auto)]
+
 #[cfg(test)]
 mod tests;

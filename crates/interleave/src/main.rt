@@ -1,4 +1,6 @@
 // Runs the scripts of a run text, turn by turn, and prints what came of each turn, who came first, and the values.
+#![tactic(auto)]
+
 mod input;
 mod output;
 mod run;

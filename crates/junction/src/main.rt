@@ -1,5 +1,7 @@
 // One task from beginning to end: a small junction's plan is built and shown, a clearance time is changed in the image
 // that the lamps read, and two engineers change phase six at the same time.
+#![tactic(auto)]
+
 mod story;
 
 use crate::story::{story, tell_order, tell_rows};

@@ -1,5 +1,7 @@
 // What a lock session means, and what holds of every session. The functions below carry the theorems: their contracts
 // are what is proved, and their results mean nothing.
+#![tactic(auto)]
+
 pub mod table;
 
 ghost use Rattle.model.specs.Consistent.{EverySessionConsistent};

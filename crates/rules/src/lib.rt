@@ -1,4 +1,6 @@
 // Lock rules: which node a transaction may lock next.
+#![tactic(auto)]
+
 pub mod any;
 pub mod guard;
 pub mod guarded;

@@ -1,4 +1,6 @@
 // The lines of a run's output, each written into a lent buffer.
+#![tactic(auto)]
+
 mod build;
 pub mod examples;
 mod line;

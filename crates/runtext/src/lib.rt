@@ -1,4 +1,6 @@
 // Reading a run text.
+#![tactic(auto)]
+
 mod cut;
 pub mod fault;
 mod fill;

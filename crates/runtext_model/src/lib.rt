@@ -1,4 +1,6 @@
 // The run text: what its lines say, and that each description has one text.
+#![tactic(auto)]
+
 pub mod kind;
 
 ghost use Rattle.runtext_model.specs.Canonical.{Canonical};

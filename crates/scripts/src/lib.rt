@@ -1,4 +1,6 @@
 // A run of scripts over a session that it owns: turns by a list, then by rounds, until all scripts are done.
+#![tactic(auto)]
+
 mod find;
 pub mod finish;
 mod found;

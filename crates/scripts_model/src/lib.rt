@@ -1,5 +1,7 @@
 // What a run of scripts means, and what holds of every run. The functions below carry the theorems: their contracts are
 // what is proved, and their results mean nothing.
+#![tactic(auto)]
+
 pub mod cursor;
 pub mod step;
 

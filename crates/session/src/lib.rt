@@ -1,4 +1,6 @@
 // A lock session: transactions that lock the nodes of a store by a rule, and what it reports of them.
+#![tactic(auto)]
+
 pub mod accesses;
 pub mod answer;
 pub mod calls;

@@ -1,4 +1,6 @@
 // Tickets: each stands for one transaction of a session and has to be closed, once.
+#![tactic(auto)]
+
 ghost use Rattle.std.specs.Prelude.{◌≡◌, pos, Ok, Err};
 ghost use Rattle.model.specs.Calls as calls;
 ghost use Rattle.model.specs.Checks.{answer};

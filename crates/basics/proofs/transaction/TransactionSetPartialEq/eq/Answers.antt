@@ -3,4 +3,7 @@ use Rattle.basics.proofs.Masks.{same_members}
 use Rattle.basics.proofs.transaction.TransactionSetPartialEq.eq.Goals as goal
 
 pub returns : goal.returns
-returns c = (refl, same_members c.args.self.now.mask c.args.other.now.mask)
+returns c = record {
+  mask = refl;
+  members = same_members c.args.self.now.mask c.args.other.now.mask;
+}

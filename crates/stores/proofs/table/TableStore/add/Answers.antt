@@ -9,8 +9,8 @@ use Rattle.stores.specs.Table.{SmallRow}
 use Rattle.stores.proofs.Rows.{each_row}
 use Rattle.stores.proofs.table.TableStore.add.Goals as goal
 
-pub invariant-of-self : goal.invariant-of-self
-invariant-of-self c =
+pub invariant_of-self : goal.invariant_of-self
+invariant_of-self c =
     let t = c.args.self.now in
     let row = c.args.row in
     let value : SFits w16 row.value = search rules in

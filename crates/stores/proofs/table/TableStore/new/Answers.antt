@@ -5,8 +5,8 @@ use Rattle.stores.specs.Table.{no_row, SmallRow}
 use Rattle.stores.specs.TableLaws.{no_row_small}
 use Rattle.stores.proofs.table.TableStore.new.Goals as goal
 
-pub invariant-of-result : goal.invariant-of-result
-invariant-of-result c = (
+pub invariant_of-result : goal.invariant_of-result
+invariant_of-result c = (
   omega arith,
   (
     refl,

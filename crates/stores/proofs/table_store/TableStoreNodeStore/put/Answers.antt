@@ -8,16 +8,16 @@ use Rattle.stores.specs.Table.{no_row, rows_store, SmallRow}
 use Rattle.stores.proofs.Rows.{each_row, put_row, taken, Taken, with_value}
 use Rattle.stores.proofs.table_store.TableStoreNodeStore.put.Goals as goal
 
-pub overflow-cast-self : goal.overflow-cast-self
-overflow-cast-self c =
+pub overflow_cast-self : goal.overflow_cast-self
+overflow_cast-self c =
     let t = c.args.self.now in
     let n = c.args.n.0 in
     let wide : SFits w32 c.args.v = c.ranges.v in
     let e : true ≡ may_put (rows_store (rows_of t)) n c.args.v = c.if-not-takes.ensures ∙ ap (may_put (rows_store (rows_of t)) n) (to_z-of_z w32 c.args.v wide) in
     rw to_z-of_z (taken t n c.args.v (sym e)).fits
 
-pub invariant-of-self : goal.invariant-of-self
-invariant-of-self c =
+pub invariant_of-self : goal.invariant_of-self
+invariant_of-self c =
     let t = c.args.self.now in
     let n = c.args.n.0 in
     let v = c.args.v in
