@@ -34,19 +34,13 @@ invariant-of-self c =
     let ok = accepted nodes (guards_of t) c.args.node c.args.a.now c.args.b.now g c.in-ok-guard.ensures in
     let size = size_is t in
     let few : t.len < 256 = omega (arith, ok.room, size) in
-    let room : t.len < length t.guards = omega (arith, t.long) in (
-      omega arith,
-      (
-        length-set t.guards t.len g ∙ t.long,
-        (
-          each_more (λ i x. x.node.0 < length nodes) no_guard t.guards t.len g room t.known ok.known,
-          (
-            each_more (λ i x. fits (parents_in nodes x.node.0) x ≡ true) no_guard t.guards t.len g room t.fit ok.fit,
-            (crosses_more t c.args.node c.args.a.now c.args.b.now g room ok, tt),
-          ),
-        ),
-      ),
-    )
+    let room : t.len < length t.guards = omega (arith, t.long) in record {
+      few = omega arith;
+      long = length-set t.guards t.len g ∙ t.long;
+      known = each_more (λ i x. x.node.0 < length nodes) no_guard t.guards t.len g room t.known ok.known;
+      fit = each_more (λ i x. fits (parents_in nodes x.node.0) x ≡ true) no_guard t.guards t.len g room t.fit ok.fit;
+      cross = crosses_more t c.args.node c.args.a.now c.args.b.now g room ok;
+    }
 
 pub returns : goal.returns
 returns c =

@@ -12,17 +12,11 @@ invariant-of-self c =
     let t = c.args.self.now in
     let nodes = nodes_of t.plan in
     let r = node_refusal nodes c.args.width c.args.parents.now in
-    let grown = c.add.ensures.leaves in (
-      t.few,
-      (
-        t.long,
-        (
-          λ i l. subst (λ (ns : List Node). (get_or t.guards i no_guard).node.0 < length ns) (sym grown) (longer_plan r nodes _ _ (t.known i l)),
-          (
-            λ i l. subst (λ (ns : List Node). fits (parents_in ns (get_or t.guards i no_guard).node.0) (get_or t.guards i no_guard) ≡ true) (sym grown)
-                (ap (λ m. fits m (get_or t.guards i no_guard)) (same_parents r nodes _ _ (t.known i l)) ∙ t.fit i l),
-            (t.cross, tt),
-          ),
-        ),
-      ),
-    )
+    let grown = c.add.ensures.leaves in record {
+      few = t.few;
+      long = t.long;
+      known = λ i l. subst (λ (ns : List Node). (get_or t.guards i no_guard).node.0 < length ns) (sym grown) (longer_plan r nodes _ _ (t.known i l));
+      fit = λ i l. subst (λ (ns : List Node). fits (parents_in ns (get_or t.guards i no_guard).node.0) (get_or t.guards i no_guard) ≡ true) (sym grown)
+          (ap (λ m. fits m (get_or t.guards i no_guard)) (same_parents r nodes _ _ (t.known i l)) ∙ t.fit i l);
+      cross = t.cross;
+    }

@@ -14,7 +14,12 @@ pub invariant-of-self : goal.invariant-of-self
 invariant-of-self c =
     let s = c.args.self.now in
     let few = (c.in-Ok.ensures c.args.steps.now [] c.requires.room).3 in
-    (s.long, (omega arith, (s.several, (s.listed, tt))))
+    record {
+      long = s.long;
+      few = omega arith;
+      several = s.several;
+      listed = s.listed;
+    }
 
 pub returns-in-Ok : goal.returns-in-Ok
 returns-in-Ok c = λ ts.

@@ -18,7 +18,11 @@ invariant_of-self c =
     let high : SFits w16 row.high = search rules in
     let small : SmallRow row = ((omega (arith, ints), omega (arith, ints)), (omega (arith, ints), omega (arith, ints)), (omega (arith, ints), omega (arith, ints))) in
     let room : t.count < length t.rows = omega arith in
-    (omega arith, (length-set t.rows t.count row ∙ t.long, (each_row SmallRow t.rows t.count row room t.small small, tt)))
+    record {
+      few = omega arith;
+      long = length-set t.rows t.count row ∙ t.long;
+      small = each_row SmallRow t.rows t.count row room t.small small;
+    }
 
 pub returns : goal.returns
 returns c =

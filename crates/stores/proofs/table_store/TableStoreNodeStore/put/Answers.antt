@@ -29,7 +29,11 @@ invariant_of-self c =
     let small : Small v = (omega (arith, ints), omega (arith, ints)) in
     let room : n < length t.rows = omega (arith, told.below) in
     let new : Row = with_value (get_or t.rows n no_row) (to_z w16 (of_z w16 (to_z w32 (of_z w32 v)))) in
-    (t.few, (length-set t.rows n new ∙ t.long, (each_row SmallRow t.rows n new room t.small (subst Small (sym kept) small, (t.small n).1, (t.small n).2), tt)))
+    record {
+      few = t.few;
+      long = length-set t.rows n new ∙ t.long;
+      small = each_row SmallRow t.rows n new room t.small (subst Small (sym kept) small, (t.small n).1, (t.small n).2);
+    }
 
 pub returns : goal.returns
 returns c =
