@@ -12,26 +12,26 @@ use Rattle.rules.proofs.Growing.{accepted, was_refused, crosses_more}
 use Rattle.rules.proofs.Stepping.{size_is}
 use Rattle.rules.proofs.guard.GuardTable.add.Goals as goal
 
-pub returns-in-err-guard : goal.returns-in-err-guard
-returns-in-err-guard c =
+pub returns-in_err-guard : goal.returns-in_err-guard
+returns-in_err-guard c =
     let t = c.args.self.now in
     let n = c.args.node in
     let a = c.args.a.now in
     let b = c.args.b.now in
-    let (e, is, kept) = err_from_is_err_and c.from-residual.result c.from-residual.ensures.1 in
-    let why = was_refused (guard_refusal (nodes_of t.plan) (guards_of t) n a b) (guard_from n a b) c.in-err-guard.field-0.0 c.in-err-guard.ensures in
+    let (e, is, kept) = err_from_is_err_and c.from_residual.result c.from_residual.ensures.1 in
+    let why = was_refused (guard_refusal (nodes_of t.plan) (guards_of t) n a b) (guard_from n a b) c.in_err-guard.field-0.0 c.in_err-guard.ensures in
     record {
       answers = is ∙ ap Err kept ∙ sym (ap (λ r. answer_unless r tt) why);
       leaves = sym (ap (λ r. leave_unless r (guards_of t) (with_guard (guards_of t) n a b)) why);
       plan = refl;
     }
 
-pub invariant-of-self : goal.invariant-of-self
-invariant-of-self c =
+pub invariant_of-self : goal.invariant_of-self
+invariant_of-self c =
     let t = c.args.self.now in
-    let g = c.in-ok-guard.guard in
+    let g = c.in_ok-guard.guard in
     let nodes = nodes_of t.plan in
-    let ok = accepted nodes (guards_of t) c.args.node c.args.a.now c.args.b.now g c.in-ok-guard.ensures in
+    let ok = accepted nodes (guards_of t) c.args.node c.args.a.now c.args.b.now g c.in_ok-guard.ensures in
     let size = size_is t in
     let few : t.len < 256 = omega (arith, ok.room, size) in
     let room : t.len < length t.guards = omega (arith, t.long) in record {
@@ -48,8 +48,8 @@ returns c =
     let n = c.args.node in
     let a = c.args.a.now in
     let b = c.args.b.now in
-    let g = c.in-ok-guard.guard in
-    let ok = accepted (nodes_of t.plan) (guards_of t) n a b g c.in-ok-guard.ensures in
+    let g = c.in_ok-guard.guard in
+    let ok = accepted (nodes_of t.plan) (guards_of t) n a b g c.in_ok-guard.ensures in
     let size = size_is t in
     let room : t.len < length t.guards = omega (arith, ok.room, size, t.long) in
     record {

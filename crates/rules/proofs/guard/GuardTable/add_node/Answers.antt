@@ -7,8 +7,8 @@ use Rattle.rules.specs.Parents.{parents_in}
 use Rattle.rules.proofs.Growing.{longer_plan, same_parents}
 use Rattle.rules.proofs.guard.GuardTable.add_node.Goals as goal
 
-pub invariant-of-self : goal.invariant-of-self
-invariant-of-self c =
+pub invariant_of-self : goal.invariant_of-self
+invariant_of-self c =
     let t = c.args.self.now in
     let nodes = nodes_of t.plan in
     let r = node_refusal nodes c.args.width c.args.parents.now in
