@@ -13,6 +13,7 @@ TOP = pathlib.Path(__file__).resolve().parent.parent
 CRATES = [line.split(":")[0].split()[0] for line in (TOP / "crates.txt").read_text().splitlines() if ":" in line]
 WORD = r"[^\s(){}\[\],;.:\"|]+"
 KEBAB = re.compile(r"^[A-Za-z][A-Za-z0-9_']*(-[A-Za-z0-9_']+)+$")
+INNER = re.compile(r"^\s+(?:(?:pub|abbrev|unfoldable)\s+)*(" + WORD + r") :\s")
 HEAD = re.compile(r"^(?:(?:pub|abbrev|unfoldable|mutual)\s+)*(?:(data|record)\s+)?(" + WORD + r")\s*(?:\(|\{|:)")
 FIELD = re.compile(r"^\s+(?:pub )?(" + WORD + r") :")
 SKIP = re.compile(r"(--[^\n]*|//[^\n]*|\"(?:[^\"\\]|\\.)*\")")
@@ -57,6 +58,11 @@ def declared(path):
             field = FIELD.match(line)
             if field:
                 (fields if inside == "record" else names).add(field.group(1))
+        else:
+            # what stands in a module with parameters, or between definitions
+            inner = INNER.match(line)
+            if inner and inner.group(1) != "|":
+                names.add(inner.group(1))
     return names, fields
 
 

@@ -74,8 +74,8 @@ put_field nodes image after n start width u v wide lies long small back bits = s
     counts : leading nodes (8 * length after) ≡ leading nodes (8 * length image)
     counts = ap (λ l. leading nodes (8 * l)) long
 
-    back-off : (j : ℕ) → start + j - start ≡ j
-    back-off j = omega arith
+    back_off : (j : ℕ) → start + j - start ≡ j
+    back_off j = omega arith
 
     -- the field itself
     here : field_value nodes after n ≡ v
@@ -85,7 +85,7 @@ put_field nodes image after n start width u v wide lies long small back bits = s
         ∙ ap (signed width) (number_is (image_bit after) start width u small (λ j l.
         bits (start + j)
         ∙ cond-true (within_field start width (start + j)) (has u (width - 1 - (start + j - start))) (image_bit image (start + j)) (and_from _ _ (le-leb start (start + j) (omega arith)) (lt-ltb (start + j) (start + width) (omega arith)))
-        ∙ ap (λ p. has u (width - 1 - p)) (back-off j)))
+        ∙ ap (λ p. has u (width - 1 - p)) (back_off j)))
         ∙ back
 
     -- the fields before and after it

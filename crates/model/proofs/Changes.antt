@@ -19,7 +19,7 @@ use Rattle.model.specs.Replay.{replay_answer, replayed, Below}
 use Rattle.model.proofs.Members.{◌∈◌, Within}
 use Rattle.model.proofs.Traces.{traced_access}
 use Rattle.model.proofs.Views.{May}
-use Rattle.model.proofs.Locking.{held-locked, same_kept}
+use Rattle.model.proofs.Locking.{held_locked, same_kept}
 use Rattle.model.proofs.Replays.{right_push, replay_push}
 use Rattle.model.proofs.Phases.{none_some, same_holder, not_waiting, not_ended}
 use Rattle.model.proofs.Records.{Replaced, replaced}
@@ -56,10 +56,10 @@ module _ (first : Store) (s : State) (C : ℕ → List ℕ) (A : List Access) (i
   }
 
   -- an access of a node by its holder, as in the replay
-  pub access-kept : (t n : ℕ) (d : Operation) (a : Answer) (store : Store) → n ∈ held s t
+  pub access_kept : (t n : ℕ) (d : Operation) (a : Answer) (store : Store) → n ∈ held s t
       → replay_answer s.store n d ≡ a → replayed s.store n d ≡ store → store.count ≡ s.store.count
       → Inv first (with_store s store) C (A ++ (record { by = t; node = n; operation = d; answer = a } ∷ []))
-  access-kept t n d a store h e z c =
+  access_kept t n d a store h e z c =
       let x : Access = record { by = t; node = n; operation = d; answer = a } in
       let (xs, q) = i.kept.held-last n t h in
       record {
@@ -80,7 +80,7 @@ module _ (first : Store) (s : State) (C : ℕ → List ℕ) (A : List Access) (i
         begun_is = i.begun_is;
         asks = λ u m w. rw c (i.asks u m w);
         spent = i.spent;
-        owned = below_push A x s.begun i.owned (i.begun_is n t ((i.kept.locked_is n t).0 (held-locked s.rule (view s C i.entry A) i.kept t n h)));
+        owned = below_push A x s.begun i.owned (i.begun_is n t ((i.kept.locked_is n t).0 (held_locked s.rule (view s C i.entry A) i.kept t n h)));
         right = right_push A x first i.right (ap (λ z. replay_answer z n d) i.same_store ∙ e);
         same_store = replay_push A x first ∙ ap (λ x. replayed x n d) i.same_store ∙ z;
       }
@@ -92,28 +92,28 @@ module _ (first : Store) (s : State) (C : ℕ → List ℕ) (A : List Access) (i
       new = replaced s (changed s t r hs) t r (omega (arith, l, i.few, i.long_records)) refl
 
       module _ (same : r.locked.mask ≡ locked s t) (less : Within r.held.mask (held s t)) where
-        same-locked : (u : ℕ) → locked (changed s t r hs) u ≡ locked s u
-        same-locked u = elim (cases_eq u t) [
+        same_locked : (u : ℕ) → locked (changed s t r hs) u ≡ locked s u
+        same_locked u = elim (cases_eq u t) [
           | inl q ↦ new.locked_here u q ∙ same ∙ ap (locked s) (sym q)
           | inr f ↦ new.locked_there u f
         ]
 
-        less-held : (u : ℕ) → Within (held (changed s t r hs) u) (held s u)
-        less-held u m b = elim (cases_eq u t) [
+        less_held : (u : ℕ) → Within (held (changed s t r hs) u) (held s u)
+        less_held u m b = elim (cases_eq u t) [
           | inl q ↦ rw q (less m (rw (new.held_here u q) at b))
           | inr f ↦ rw (new.held_there u f) at b
         ]
 
-        changed-kept : length hs ≡ 64 → r.held.mask < 2 ^ 64
+        changed_kept : length hs ≡ 64 → r.held.mask < 2 ^ 64
             → ((m u : ℕ) → Holds (changed s t r hs) u m ↔ (m ∈ held (changed s t r hs) u))
             → ((m : ℕ) → r.phase ≡ Waiting (node m) → (m ∈ locked s t → ⊥) × May s.rule m (locked s t) r.held.mask × (m < count s))
             → (r.phase ≡ Ended → r.held.mask ≡ 0)
             → Inv first (changed s t r hs) C A
-        changed-kept long small holds asks spent = record {
+        changed_kept long small holds asks spent = record {
           entry = i.entry;
           kept = same_kept s.rule (view s C i.entry A) i.kept _
-              (record { lockers = λ m. refl; entry = λ u. refl; locked = same-locked })
-              (λ m u b. less-held u m b)
+              (record { lockers = λ m. refl; entry = λ u. refl; locked = same_locked })
+              (λ m u b. less_held u m b)
               i.kept.traced;
           few = i.few;
           long_records = length-set s.records t r ∙ i.long_records;
@@ -128,8 +128,8 @@ module _ (first : Store) (s : State) (C : ℕ → List ℕ) (A : List Access) (i
           asks = λ u n w. elim (cases_eq u t) [
             | inl q ↦
                 let (f, m, c) = asks n (sym (new.phase_here u q) ∙ w) in
-                rw (same-locked u, new.held_here u q, q) (l, f, m, c)
-            | inr f ↦ rw (same-locked u, new.held_there u f) (i.asks u n (sym (new.phase_there u f) ∙ w))
+                rw (same_locked u, new.held_here u q, q) (l, f, m, c)
+            | inr f ↦ rw (same_locked u, new.held_there u f) (i.asks u n (sym (new.phase_there u f) ∙ w))
           ];
           spent = λ u e. elim (cases_eq u t) [
             | inl q ↦ new.held_here u q ∙ spent (sym (new.phase_here u q) ∙ e)
@@ -141,11 +141,11 @@ module _ (first : Store) (s : State) (C : ℕ → List ℕ) (A : List Access) (i
         }
 
     -- t stands otherwise
-    pub phase-kept : (p : Phase) → ((n : ℕ) → p ≡ Waiting (node n) → (n ∈ locked s t → ⊥) × May s.rule n (locked s t) (held s t) × (n < count s))
+    pub phase_kept : (p : Phase) → ((n : ℕ) → p ≡ Waiting (node n) → (n ∈ locked s t → ⊥) × May s.rule n (locked s t) (held s t) × (n < count s))
         → is_ended p ≡ false → Inv first (with_phase s t p) C A
-    phase-kept p asks live =
+    phase_kept p asks live =
         let r : Record = record { phase = p; locked = nodes (locked s t); held = nodes (held s t) } in
-        changed-kept r s.holders refl (λ m b. b) i.long_holders (i.small t)
+        changed_kept r s.holders refl (λ m b. b) i.long_holders (i.small t)
         (λ m u. elim (cases_eq u t) [
           | inl q ↦ rw ((new r s.holders).held_here u q) (rw q (i.holder_is m t))
           | inr f ↦ rw ((new r s.holders).held_there u f) (i.holder_is m u)
@@ -153,9 +153,9 @@ module _ (first : Store) (s : State) (C : ℕ → List ℕ) (A : List Access) (i
         asks (λ e. absurd (not_ended p live e))
 
     -- t gives n back
-    pub released-kept : (n : ℕ) → n < 64 → n ∈ held s t → is_waiting (phase s t) ≡ false → is_ended (phase s t) ≡ false → Inv first (released s t n) C A
-    released-kept n few h idle live =
-        changed-kept r hs refl (λ m b. ((out m).0 b).0) (length-set s.holders n None ∙ i.long_holders) (without_lt 64 (held s t) n (i.small t))
+    pub released_kept : (n : ℕ) → n < 64 → n ∈ held s t → is_waiting (phase s t) ≡ false → is_ended (phase s t) ≡ false → Inv first (released s t n) C A
+    released_kept n few h idle live =
+        changed_kept r hs refl (λ m b. ((out m).0 b).0) (length-set s.holders n None ∙ i.long_holders) (without_lt 64 (held s t) n (i.small t))
         (λ m u. elim (cases_eq m n) [ inl q ↦ rw q (here u) | inr f ↦ there m u f ])
         (λ m w. absurd (not_waiting (phase s t) (node m) idle w))
         (λ e. absurd (not_ended (phase s t) live e))
@@ -185,9 +185,9 @@ module _ (first : Store) (s : State) (C : ℕ → List ℕ) (A : List Access) (i
         ])
 
     -- t gives all back
-    pub ended-kept : Inv first (ended s t) C A
-    ended-kept =
-        changed-kept r hs refl (λ m b. absurd (no_member m b)) (length-map s.holders (freed t) ∙ i.long_holders) (omega arith)
+    pub ended_kept : Inv first (ended s t) C A
+    ended_kept =
+        changed_kept r hs refl (λ m b. absurd (no_member m b)) (length-map s.holders (freed t) ∙ i.long_holders) (omega arith)
         (λ m u. rw (get_or-map (freed t) s.holders m None) (elim (cases_eq u t) [
           | inl q ↦ rw ((new r hs).held_here u q) (rw q (λ e. absurd (gone (holder s m) e), λ b. absurd (no_member m b)))
           | inr f ↦ rw ((new r hs).held_there u f) (

@@ -8,10 +8,10 @@ use Rattle.model.specs.Step.{session}
 use Rattle.model.specs.History.{lockers_of, accesses}
 use Rattle.model.specs.Consistent.{Consistent, EverySessionConsistent}
 use Rattle.model.proofs.Members.{lacks}
-use Rattle.model.proofs.Locking.{held-locked}
+use Rattle.model.proofs.Locking.{held_locked}
 use Rattle.model.proofs.Inv.{view, Inv}
 use Rattle.model.proofs.Steps.{every_run}
-use Rattle.model.proofs.Explains.{holder-begun}
+use Rattle.model.proofs.Explains.{holder_begun}
 use Rattle.model.proofs.Standings.{Told, every_run_told}
 
 consistent : (first : Store) (h : List Event) (s : State) → Inv first s (lockers_of h) (accesses h) → Told (record { state = s; log = h }) → Consistent h s
@@ -25,9 +25,9 @@ consistent first h s i told = record {
   long_lockers = i.long_lockers;
   long_earlier = i.long_earlier;
   holds = λ u n. i.holder_is n u;
-  begun_holder = λ u n e. holder-begun first h s i n u e;
+  begun_holder = λ u n e. holder_begun first h s i n u e;
   last_locker = λ u n e. i.kept.held-last n u ((i.holder_is n u).0 e);
-  held_locked = λ t. (within_members (held s t) (locked s t)).1 (held-locked s.rule (view s (lockers_of h) i.entry (accesses h)) i.kept t);
+  held_locked = λ t. (within_members (held s t) (locked s t)).1 (held_locked s.rule (view s (lockers_of h) i.entry (accesses h)) i.kept t);
   unbegun_empty = λ t l. has_empty (locked s t) (λ n. lacks (locked s t) n (λ b. omega (arith, l, i.begun_is n t ((i.kept.locked_is n t).0 b))));
   ended_empty = i.spent;
   waits_new = λ t n w. let (b, f, m, c) = i.asks t n w in (b, c, f);

@@ -19,16 +19,16 @@ use Rattle.model.specs.Explained.{Precedes, Explained, EverySessionExplained}
 use Rattle.model.proofs.Standings.{Told, every_run_told}
 use Rattle.model.proofs.Lists.{before_left, before_right, before_trans, before_irrefl}
 use Rattle.model.proofs.Members.{◌∈◌, lacks}
-use Rattle.model.proofs.Traces.{at_node, same-by-one}
+use Rattle.model.proofs.Traces.{at_node, same_by_one}
 use Rattle.model.proofs.Views.{View}
-use Rattle.model.proofs.Locking.{held-locked}
-use Rattle.model.proofs.Queues.{minimal-of-all}
+use Rattle.model.proofs.Locking.{held_locked}
+use Rattle.model.proofs.Queues.{minimal_of_all}
 use Rattle.model.proofs.Placing.{Placed, all_placed}
-use Rattle.model.proofs.Replays.{right_answers, right-over, values-over}
+use Rattle.model.proofs.Replays.{right_answers, right_over, values_over}
 use Rattle.model.proofs.Phases.{same_node, not_waiting}
 use Rattle.model.proofs.Inv.{all_begun, view, Inv}
 use Rattle.model.proofs.Steps.{every_run}
-use Rattle.model.proofs.Waiters.{waiters, want, waiters-wait, is-waiter, wants, waiters-distinct}
+use Rattle.model.proofs.Waiters.{waiters, want, waiters_wait, is_waiter, wants, waiters_distinct}
 
 holder_set_is : (o : Option TransactionNumber) (u : ℕ) → u ∈ holder_set o → o ≡ Some (transaction u)
 holder_set_is None u b = absurd (no_member u b)
@@ -54,41 +54,41 @@ module _ (first : Store) (h : List Event) (s : State) (i : Inv first s (lockers_
   abbrev v : View
   v = view s (lockers_of h) i.entry (accesses h)
 
-  holder-locked : (n u : ℕ) → Holds s u n → n ∈ locked s u
-  holder-locked n u e = held-locked s.rule v i.kept u n ((i.holder_is n u).0 e)
+  holder_locked : (n u : ℕ) → Holds s u n → n ∈ locked s u
+  holder_locked n u e = held_locked s.rule v i.kept u n ((i.holder_is n u).0 e)
 
-  pub holder-begun : (n u : ℕ) → Holds s u n → u < s.begun
-  holder-begun n u e = i.begun_is n u ((i.kept.locked_is n u).0 (holder-locked n u e))
+  pub holder_begun : (n u : ℕ) → Holds s u n → u < s.begun
+  holder_begun n u e = i.begun_is n u ((i.kept.locked_is n u).0 (holder_locked n u e))
 
-  waited-for-is : (p : Phase) (u : ℕ) → (u ∈ waited_for s p) ↔ ((n : ℕ) × (p ≡ Waiting (node n)) × Holds s u n)
-  waited-for-is Open u = (λ b. absurd (no_member u b), λ (n, w, e). absurd (not_waiting Open (node n) refl w))
-  waited-for-is (Waiting m) u = (
+  waited_for_is : (p : Phase) (u : ℕ) → (u ∈ waited_for s p) ↔ ((n : ℕ) × (p ≡ Waiting (node n)) × Holds s u n)
+  waited_for_is Open u = (λ b. absurd (no_member u b), λ (n, w, e). absurd (not_waiting Open (node n) refl w))
+  waited_for_is (Waiting m) u = (
     λ b. (m.0, refl, holder_set_is (holder s m.0) u b),
-    λ (n, w, e). in_holder_set (holder s m.0) u (omega (arith, holder-begun n u e, i.few)) (ap (holder s) (same_node (Waiting m) m.0 n refl w) ∙ e),
+    λ (n, w, e). in_holder_set (holder s m.0) u (omega (arith, holder_begun n u e, i.few)) (ap (holder s) (same_node (Waiting m) m.0 n refl w) ∙ e),
   )
-  waited-for-is Ended u = (λ b. absurd (no_member u b), λ (n, w, e). absurd (not_waiting Ended (node n) refl w))
+  waited_for_is Ended u = (λ b. absurd (no_member u b), λ (n, w, e). absurd (not_waiting Ended (node n) refl w))
 
-  waiting-apart : (t n u : ℕ) → Waits s t n → Holds s u n → u ≡ t → ⊥
-  waiting-apart t n u w e q = (i.asks t n w).1 (rw q at (holder-locked n u e))
+  waiting_apart : (t n u : ℕ) → Waits s t n → Holds s u n → u ≡ t → ⊥
+  waiting_apart t n u w e q = (i.asks t n w).1 (rw q at (holder_locked n u e))
 
-  lockers-apart : (n u t : ℕ) → Before u t (lockers_of h n) → u ≡ t → ⊥
-  lockers-apart n u t b q = before_irrefl (lockers_of h n) t (i.kept.descending.distinct n) (rw q at b)
+  lockers_apart : (n u t : ℕ) → Before u t (lockers_of h n) → u ≡ t → ⊥
+  lockers_apart n u t b q = before_irrefl (lockers_of h n) t (i.kept.descending.distinct n) (rw q at b)
 
-  precedes-begun : (u t : ℕ) → Ahead h s u t → (u < s.begun) × (t < s.begun)
-  precedes-begun u t p = elim p.1 [
+  precedes_begun : (u t : ℕ) → Ahead h s u t → (u < s.begun) × (t < s.begun)
+  precedes_begun u t p = elim p.1 [
     | inl (n, b) ↦ (i.begun_is n u (before_left _ u t b), i.begun_is n t (before_right _ u t b))
-    | inr (n, w, e) ↦ (holder-begun n u e, (i.asks t n w).0)
+    | inr (n, w, e) ↦ (holder_begun n u e, (i.asks t n w).0)
   ]
 
   reported : (u t : ℕ) → (u ∈ bit_or (earlier_than s t) (waited_for s (phase s t))) ↔ Ahead h s u t
   reported u t = (
     λ b. elim ((or_members (earlier_than s t) (waited_for s (phase s t)) u).0 b) [
-      | inl c ↦ let (n, d) = (i.earlier_is t u).0 c in (lockers-apart n u t d, inl (n, d))
-      | inr c ↦ let (n, w, e) = (waited-for-is (phase s t) u).0 c in (waiting-apart t n u w e, inr (n, w, e))
+      | inl c ↦ let (n, d) = (i.earlier_is t u).0 c in (lockers_apart n u t d, inl (n, d))
+      | inr c ↦ let (n, w, e) = (waited_for_is (phase s t) u).0 c in (waiting_apart t n u w e, inr (n, w, e))
     ],
     λ p. (or_members (earlier_than s t) (waited_for s (phase s t)) u).1 (elim p.1 [
       | inl c ↦ inl ((i.earlier_is t u).1 c)
-      | inr c ↦ inr ((waited-for-is (phase s t) u).1 c)
+      | inr c ↦ inr ((waited_for_is (phase s t) u).1 c)
     ]),
   )
 
@@ -97,49 +97,49 @@ module _ (first : Store) (h : List Event) (s : State) (i : Inv first s (lockers_
     | inl e ↦ rw (cond-true (ltb t (begun_count s)) (bit_or (earlier_than s t) (waited_for s (phase s t))) 0 e) (reported u t)
     | inr e ↦ rw (cond-false (ltb t (begun_count s)) (bit_or (earlier_than s t) (waited_for s (phase s t))) 0 e) (
       λ b. absurd (no_member u b),
-      λ p. absurd (both_ways (ltb t (begun_count s)) e (lt-ltb t (begun_count s) (omega (arith, i.few, (precedes-begun u t p).1)))),
+      λ p. absurd (both_ways (ltb t (begun_count s)) e (lt-ltb t (begun_count s) (omega (arith, i.few, (precedes_begun u t p).1)))),
     )
   ]
 
   -- of any transactions, one whose predecessors are none of them
   least : (x : ℕ) (xs : List ℕ) → (w : ℕ) × In w (x ∷ xs) × ((u : ℕ) → In u (x ∷ xs) → u ∈ predecessors s w → ⊥)
   least x xs =
-      let (w, j, locker, waiting) = minimal-of-all s.rule v i.kept (waiters s) (want s) (λ t j. (i.asks t (want s t) (waiters-wait s t j)).2) (waiters-distinct s)
-      (λ t j k. (i.asks t (want s t) (waiters-wait s t j)).1 ((i.kept.locked_is (want s t) t).1 k)) x xs in (
+      let (w, j, locker, waiting) = minimal_of_all s.rule v i.kept (waiters s) (want s) (λ t j. (i.asks t (want s t) (waiters_wait s t j)).2) (waiters_distinct s)
+      (λ t j k. (i.asks t (want s t) (waiters_wait s t j)).1 ((i.kept.locked_is (want s t) t).1 k)) x xs in (
         w,
         j,
         λ u k b. elim ((report u w).0 b).1 [
           | inl (n, c) ↦ locker u n k c
-          | inr (n, c, e) ↦ waiting u k (is-waiter s w n (i.asks w n c).0 c) (rw (wants s w n c) ((i.holder_is n u).0 e))
+          | inr (n, c, e) ↦ waiting u k (is_waiter s w n (i.asks w n c).0 c) (rw (wants s w n c) ((i.holder_is n u).0 e))
         ],
       )
 
   placed : Placed (predecessors s) s.begun 0 (serial_order s)
-  placed = rw (all_begun s i.few) (all_placed (predecessors s) s.begun i.few (λ u t b. (precedes-begun u t ((report u t).0 b)).0) least)
+  placed = rw (all_begun s i.few) (all_placed (predecessors s) s.begun i.few (λ u t b. (precedes_begun u t ((report u t).0 b)).0) least)
 
   follows : (u t : ℕ) → Ahead h s u t → Before u t (serial_order s)
   follows u t p =
-      let j : In t (serial_order s) = placed.all t (precedes-begun u t p).1 (no_member t) in
+      let j : In t (serial_order s) = placed.all t (precedes_begun u t p).1 (no_member t) in
       elim (placed.after u t j ((report u t).1 p)) [ inl b ↦ absurd (no_member u b) | inr b ↦ b ]
 
   -- at each node the serial order has the same accesses, in the same order
   same : (n : ℕ) → at_node n (serial (serial_order s) (accesses h)) ≡ at_node n (accesses h)
-  same n = same-by-one (lockers_of h) (accesses h) i.kept.traced (serial_order s) n placed.once (i.kept.descending.distinct n)
+  same n = same_by_one (lockers_of h) (accesses h) i.kept.traced (serial_order s) n placed.once (i.kept.descending.distinct n)
       (λ u j. placed.all u (i.begun_is n u j) (no_member u))
       (λ u w b c. before_irrefl (serial_order s) w placed.once
-      (before_trans (serial_order s) w u w placed.once b (follows u w (lockers-apart n u w c, inl (n, c)))))
+      (before_trans (serial_order s) w u w placed.once b (follows u w (lockers_apart n u w c, inl (n, c)))))
 
   pub explained : Told (record { state = s; log = h }) → Explained first h s (serial_order s)
   explained told = record {
     once = placed.once;
     all = λ t. (λ j. (placed.fresh t j).0, λ l. placed.all t l (no_member t));
     whole = i.owned;
-    answers = right_answers (serial (serial_order s) (accesses h)) first (right-over first (accesses h) (serial (serial_order s) (accesses h)) same i.right);
-    values = λ n. values-over first (accesses h) (serial (serial_order s) (accesses h)) same n ∙ ap (λ x. x.values n) i.same_store;
-    waits = λ t n u w e. follows u t (waiting-apart t n u w e, inr (n, w, e));
+    answers = right_answers (serial (serial_order s) (accesses h)) first (right_over first (accesses h) (serial (serial_order s) (accesses h)) same i.right);
+    values = λ n. values_over first (accesses h) (serial (serial_order s) (accesses h)) same n ∙ ap (λ x. x.values n) i.same_store;
+    waits = λ t n u w e. follows u t (waiting_apart t n u w e, inr (n, w, e));
     follows = λ u t p. follows u t ((ahead_told h s told u t).1 p);
     report = λ u t. (λ b. (ahead_told h s told u t).0 ((report u t).0 b), λ p. (report u t).1 ((ahead_told h s told u t).1 p));
-    none = λ t l. has_empty (predecessors s t) (λ u. lacks (predecessors s t) u (λ b. omega (arith, l, (precedes-begun u t ((report u t).0 b)).1)));
+    none = λ t l. has_empty (predecessors s t) (λ u. lacks (predecessors s t) u (λ b. omega (arith, l, (precedes_begun u t ((report u t).0 b)).1)));
   }
 
 pub every_session_explained : EverySessionExplained

@@ -14,10 +14,10 @@ use Rattle.model.specs.Step.{granted}
 use Rattle.model.specs.History.{Access}
 use Rattle.model.proofs.Members.{◌∈◌}
 use Rattle.model.proofs.Views.{Granted}
-use Rattle.model.proofs.Locking.{granted-kept}
+use Rattle.model.proofs.Locking.{granted_kept}
 use Rattle.model.proofs.Phases.{none_some, same_holder, not_waiting, not_ended}
 use Rattle.model.proofs.Records.{Replaced, replaced}
-use Rattle.model.proofs.Pushes.{in-pushed, before-pushed}
+use Rattle.model.proofs.Pushes.{in_pushed, before_pushed}
 use Rattle.model.proofs.Inv.{view, Asking, Inv}
 
 -- one mask gets one element more
@@ -62,9 +62,9 @@ module _ (first : Store) (s : State) (C C' : ℕ → List ℕ) (A : List Access)
   unfolding entry
   entry_here = rw (eq-eqb t t refl) refl
 
-  entry-there : (u : ℕ) → (u ≡ t → ⊥) → entry u ≡ i.entry u
+  entry_there : (u : ℕ) → (u ≡ t → ⊥) → entry u ≡ i.entry u
   unfolding entry
-  entry-there u f = rw (ne_eqb u t f) refl
+  entry_there u f = rw (ne_eqb u t f) refl
 
   locks : (m u : ℕ) → (m ∈ locked (granted s t n) u) ↔ ((m ∈ locked s u) ⊎ ((m ≡ n) × (u ≡ t)))
   unfolding r
@@ -88,7 +88,7 @@ module _ (first : Store) (s : State) (C C' : ℕ → List ℕ) (A : List Access)
       | inl z ↦ inl (z, rw (eq-eqb (locked s t) 0 z) refl)
       | inr f ↦ inr (f, asking.2, rw (ne_eqb (locked s t) 0 f) refl)
     ]);
-    entries = entry-there;
+    entries = entry_there;
     here = here;
     elsewhere = elsewhere;
     locks = locks;
@@ -97,7 +97,7 @@ module _ (first : Store) (s : State) (C C' : ℕ → List ℕ) (A : List Access)
   }
 
   holder_is : (m u : ℕ) → Holds (granted s t n) u m ↔ (m ∈ held (granted s t n) u)
-  holder-is m u = elim (cases_eq m n) [
+  holder_is m u = elim (cases_eq m n) [
     | inl q ↦
         let e : holder (granted s t n) m ≡ Some (transaction t) =
         ap (λ x. get_or (set s.holders n (Some (transaction t))) x None) q
@@ -113,9 +113,9 @@ module _ (first : Store) (s : State) (C C' : ℕ → List ℕ) (A : List Access)
   ]
 
   lockers_is : (m u : ℕ) → (u ∈ lockers_at (granted s t n) m) ↔ In u (C' m)
-  lockers-is m u = (
-    λ b. (in-pushed C C' n t here elsewhere m u).1 (elim ((added u m).0 b) [ inl c ↦ inl ((i.lockers_is m u).0 c) | inr z ↦ inr (z.1, z.0) ]),
-    λ j. (added u m).1 (elim ((in-pushed C C' n t here elsewhere m u).0 j) [ inl c ↦ inl ((i.lockers_is m u).1 c) | inr z ↦ inr (z.1, z.0) ]),
+  lockers_is m u = (
+    λ b. (in_pushed C C' n t here elsewhere m u).1 (elim ((added u m).0 b) [ inl c ↦ inl ((i.lockers_is m u).0 c) | inr z ↦ inr (z.1, z.0) ]),
+    λ j. (added u m).1 (elim ((in_pushed C C' n t here elsewhere m u).0 j) [ inl c ↦ inl ((i.lockers_is m u).1 c) | inr z ↦ inr (z.1, z.0) ]),
   )
     where
       added : (u m : ℕ) → (u ∈ lockers_at (granted s t n) m) ↔ ((u ∈ lockers_at s m) ⊎ ((u ≡ t) × (m ≡ n)))
@@ -124,7 +124,7 @@ module _ (first : Store) (s : State) (C C' : ℕ → List ℕ) (A : List Access)
           (mask_there s.lockers n _)
 
   earlier_is : (v u : ℕ) → (u ∈ earlier_than (granted s t n) v) ↔ ((m : ℕ) × Before u v (C' m))
-  earlier-is v u = elim (cases_eq v t) [
+  earlier_is v u = elim (cases_eq v t) [
     | inl q ↦ rw (mask_here s.earlier t both (omega (arith, l, i.few, i.long_earlier)) v q) (
       λ b. elim ((or_members (earlier_than s t) (lockers_at s n) u).0 b) [
         | inl c ↦ let (m, d) = (i.earlier_is t u).0 c in (m, (pushed m u v).1 (inl (rw q d)))
@@ -145,13 +145,13 @@ module _ (first : Store) (s : State) (C C' : ℕ → List ℕ) (A : List Access)
       both = transactions (bit_or (earlier_than s t) (lockers_at s n))
 
       pushed : (m u v : ℕ) → Before u v (C' m) ↔ (Before u v (C m) ⊎ ((m ≡ n) × In u (C n) × (v ≡ t)))
-      pushed = before-pushed C C' n t here elsewhere
+      pushed = before_pushed C C' n t here elsewhere
 
-  pub granted-inv : Inv first (granted s t n) C' A
+  pub granted_inv : Inv first (granted s t n) C' A
   unfolding r
-  granted-inv = record {
+  granted_inv = record {
     entry = entry;
-    kept = granted-kept s.rule (view s C i.entry A) i.kept _ n t grants;
+    kept = granted_kept s.rule (view s C i.entry A) i.kept _ n t grants;
     few = i.few;
     long_records = length-set s.records t r ∙ i.long_records;
     long_holders = length-set s.holders n _ ∙ i.long_holders;
@@ -161,10 +161,10 @@ module _ (first : Store) (s : State) (C C' : ℕ → List ℕ) (A : List Access)
       | inl q ↦ rw (rep.held_here u q) (with_lt 64 (held s t) n (i.small t))
       | inr f ↦ rw (rep.held_there u f) (i.small u)
     ];
-    holder_is = holder-is;
-    lockers_is = lockers-is;
-    earlier_is = earlier-is;
-    begun_is = λ m u j. elim ((in-pushed C C' n t here elsewhere m u).0 j) [ inl c ↦ i.begun_is m u c | inr z ↦ rw z.1 l ];
+    holder_is = holder_is;
+    lockers_is = lockers_is;
+    earlier_is = earlier_is;
+    begun_is = λ m u j. elim ((in_pushed C C' n t here elsewhere m u).0 j) [ inl c ↦ i.begun_is m u c | inr z ↦ rw z.1 l ];
     asks = λ u m w. elim (cases_eq u t) [
       | inl q ↦ absurd (not_waiting Open (node m) refl (sym (rep.phase_here u q) ∙ w))
       | inr f ↦

@@ -14,7 +14,7 @@ use Rattle.model.specs.History.{Access}
 use Rattle.model.specs.Replay.{Below, replay}
 use Rattle.model.proofs.Members.{◌∈◌}
 use Rattle.model.proofs.Views.{View, May, Kept}
-use Rattle.model.proofs.Locking.{start-kept}
+use Rattle.model.proofs.Locking.{start_kept}
 use Rattle.model.proofs.Replays.{Right}
 
 -- the session s, with C n who locked n, in order, e t the first node of t, and A the accesses
@@ -57,7 +57,7 @@ getD_same k i x = elim (cases_lt i k) [
 pub start_inv : (rule : Rule) (store : Store) → Inv store (start rule store) (λ n. []) []
 start_inv rule store = record {
   entry = λ t. 0;
-  kept = start-kept rule (view (start rule store) (λ n. []) (λ t. 0) []) (λ n. refl)
+  kept = start_kept rule (view (start rule store) (λ n. []) (λ t. 0) []) (λ n. refl)
       (λ n t h. no_member n (rw (ap (λ r. r.locked.mask) (getD_same 32 t blank)) at h))
       (λ n t h. no_member n (rw (ap (λ r. r.held.mask) (getD_same 32 t blank)) at h))
       refl;

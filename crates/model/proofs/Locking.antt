@@ -22,15 +22,15 @@ module _ (rule : Rule) where
 
   module _ (s : View) (k : Kept rule s) where
     pub held_locked : (u : ℕ) → Within (s.held u) (s.locked u)
-    held-locked u m h = let (xs, q) = k.held-last m u h in (k.locked_is m u).1 (rw q (in_last xs u))
+    held_locked u m h = let (xs, q) = k.held-last m u h in (k.locked_is m u).1 (rw q (in_last xs u))
 
-    allowed-reason : (n t e : ℕ) → Allowed rule s n t e → (n ≡ e) ⊎ Reason rule n (s.locked t)
-    allowed-reason n t e (inl a) = inl (sym a.1)
-    allowed-reason n t e (inr a) = inr (record {
+    allowed_reason : (n t e : ℕ) → Allowed rule s n t e → (n ≡ e) ⊎ Reason rule n (s.locked t)
+    allowed_reason n t e (inl a) = inl (sym a.1)
+    allowed_reason n t e (inr a) = inr (record {
       H = s.locked t;
       K = s.held t;
       some = a.0;
-      inside = held-locked t;
+      inside = held_locked t;
       part = λ p h. h;
       allows = a.1;
     })
@@ -39,7 +39,7 @@ module _ (rule : Rule) where
     met : (n u v e : ℕ) → (u ≡ v → ⊥) → Reason rule n (s.locked u) → Allowed rule s n v e → (n ≡ e) ⊎ ((p : ℕ) × (p < n) × Before u v (s.lockers p))
     met n u v e ne r (inl a) = inl (sym a.1)
     met n u v e ne r (inr a) =
-        let (p, below, in-H, in-K) = meeting n (s.locked u) r (s.locked v) (s.held v) a.0 (held-locked v) a.1 in
+        let (p, below, in-H, in-K) = meeting n (s.locked u) r (s.locked v) (s.held v) a.0 (held_locked v) a.1 in
         let (xs, q) = k.held-last p v in-K in
         let j : In u (xs ++ (v ∷ [])) = rw q at ((k.locked_is p u).0 (r.part p in-H)) in
         let b : Before u v (xs ++ (v ∷ [])) = elim (in_push xs v u j) [ inl l ↦ before_last xs v u l | inr z ↦ absurd (ne z) ] in
@@ -49,11 +49,11 @@ module _ (rule : Rule) where
       reasons : (n u : ℕ) → In u (s.lockers n ++ W n) → (n ≡ e u) ⊎ Reason rule n (s.locked u)
       reasons n u i = elim (in_append (s.lockers n) (W n) u i) [
         | inl j ↦ elim (k.reason n u j) [ inl q ↦ inl (q ∙ sym (w.entries n u j)) | inr r ↦ inr r ]
-        | inr j ↦ allowed-reason n u (e u) (w.allowed n u j)
+        | inr j ↦ allowed_reason n u (e u) (w.allowed n u j)
       ]
 
-      pub waiting-descending : Descending (λ n. s.lockers n ++ W n) e
-      waiting-descending = record {
+      pub waiting_descending : Descending (λ n. s.lockers n ++ W n) e
+      waiting_descending = record {
         distinct = w.distinct;
         entered = λ n u i. elim (reasons n u i) [
           | inl q ↦ omega (arith, q)
@@ -87,9 +87,9 @@ module _ (rule : Rule) where
       next : ℕ → List ℕ
       next m = cond (eqb m n) (t ∷ []) []
 
-      next-is : (m u : ℕ) → In u (next m) → (m ≡ n) × (u ≡ t)
+      next_is : (m u : ℕ) → In u (next m) → (m ≡ n) × (u ≡ t)
       unfolding next
-      next-is m u i = elim (cases_eq m n) [
+      next_is m u i = elim (cases_eq m n) [
         | inl q ↦
             let j : In u (t ∷ []) = rw (eq-eqb m n q) at i in
             elim j [ inl z ↦ (q, z) | inr z ↦ absurd z ]
@@ -104,7 +104,7 @@ module _ (rule : Rule) where
       ]
 
       in_after : (m u : ℕ) → In u (s'.lockers m) → In u (s.lockers m) ⊎ ((m ≡ n) × (u ≡ t))
-      in_after m u i = elim (in_append (s.lockers m) (next m) u (rw (after m) at i)) [ inl j ↦ inl j | inr j ↦ inr (next-is m u j) ]
+      in_after m u i = elim (in_append (s.lockers m) (next m) u (rw (after m) at i)) [ inl j ↦ inl j | inr j ↦ inr (next_is m u j) ]
 
       -- who has locked a node keeps its entry
       entry_kept : (m u : ℕ) → In u (s.lockers m) → s'.entry u ≡ s.entry u
@@ -119,13 +119,13 @@ module _ (rule : Rule) where
           | inl q ↦ rw (q, g.here) (distinct_push (s.lockers n) t (k.descending.distinct n) g.new)
           | inr f ↦ rw (g.elsewhere m f) (k.descending.distinct m)
         ]);
-        allowed = λ m u i. let (q, z) = next-is m u i in rw (q, z) g.allowed;
+        allowed = λ m u i. let (q, z) = next_is m u i in rw (q, z) g.allowed;
         entries = entry_kept;
       }
 
-      pub granted-kept : Kept rule s'
-      granted-kept = record {
-        descending = let c : s'.lockers ≡ (λ m. s.lockers m ++ next m) = fun_ext after in rw c (waiting-descending next s'.entry waits);
+      pub granted_kept : Kept rule s'
+      granted_kept = record {
+        descending = let c : s'.lockers ≡ (λ m. s.lockers m ++ next m) = fun_ext after in rw c (waiting_descending next s'.entry waits);
         locked_is = λ m u. (
           λ h. elim ((g.locks m u).0 h) [
             | inl l ↦ rw (after m) (in_left (s.lockers m) (next m) u ((k.locked_is m u).0 l))
@@ -160,9 +160,9 @@ module _ (rule : Rule) where
         }
 
   -- where nobody locked anything
-  pub start-kept : (s : View) → ((n : ℕ) → s.lockers n ≡ [])
+  pub start_kept : (s : View) → ((n : ℕ) → s.lockers n ≡ [])
       → ((n t : ℕ) → n ∈ s.locked t → ⊥) → ((n t : ℕ) → n ∈ s.held t → ⊥) → s.trace ≡ [] → Kept rule s
-  start-kept s nobody unlocked unheld quiet = record {
+  start_kept s nobody unlocked unheld quiet = record {
     descending = record {
       distinct = λ m. rw (nobody m) tt;
       entered = λ m u i. absurd (rw (nobody m) at i);

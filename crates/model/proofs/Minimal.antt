@@ -59,24 +59,24 @@ abbrev pub Minimal : (ℕ → List ℕ) → List ℕ → Type 0
 Minimal C U = (w : ℕ) × In w U × ((u n : ℕ) → In u U → Before u w (C n) → ⊥)
 
 module _ (C : ℕ → List ℕ) (e : ℕ → ℕ) (s : Descending C e) where
-  at-node : (u t m n : ℕ) → m ≡ n → Before u t (C m) → Before u t (C n)
-  at-node u t m n q b = rw (← q) b
+  at_node : (u t m n : ℕ) → m ≡ n → Before u t (C m) → Before u t (C n)
+  at_node u t m n q b = rw (← q) b
 
   at_entry : (k n u t : ℕ) → n < k → Before u t (C n) → Before u t (C (max (e u) (e t)))
   at_entry zero n u t h b = absurd (omega arith)
   at_entry (suc k) n u t h b =
       elim (s.lower n u t b) [
-        | inl q ↦ at-node u t n _ (omega (arith, s.entered n t (before_right (C n) u t b))) b
-        | inr (inl q) ↦ at-node u t n _ (omega (arith, s.entered n u (before_left (C n) u t b))) b
+        | inl q ↦ at_node u t n _ (omega (arith, s.entered n t (before_right (C n) u t b))) b
+        | inr (inl q) ↦ at_node u t n _ (omega (arith, s.entered n u (before_left (C n) u t b))) b
         | inr (inr p) ↦ at_entry k p.0 u t (omega (arith, p.1)) p.2
       ]
 
-  at-max : (n u t : ℕ) → Before u t (C n) → Before u t (C (max (e u) (e t)))
-  at-max n u t b = at_entry (suc n) n u t (omega arith) b
+  at_max : (n u t : ℕ) → Before u t (C n) → Before u t (C (max (e u) (e t)))
+  at_max n u t b = at_entry (suc n) n u t (omega arith) b
 
   -- the step: the last to enter is taken out, and w is minimal among the others
-  from-rest : (x : ℕ) (xs : List ℕ) (l : Largest e x xs) → Minimal C l.rest → Minimal C (x ∷ xs)
-  from-rest x xs l (w, i, least) =
+  from_rest : (x : ℕ) (xs : List ℕ) (l : Largest e x xs) → Minimal C l.rest → Minimal C (x ∷ xs)
+  from_rest x xs l (w, i, least) =
       let t = l.top in
       elim (dec_before t w (C (max (e t) (e w)))) [
         | inl b ↦ (
@@ -85,12 +85,12 @@ module _ (C : ℕ → List ℕ) (e : ℕ → ℕ) (s : Descending C e) where
           λ u n j c. elim (l.out u j) [
             | inl q ↦ before_irrefl (C n) t (s.distinct n) (rw q at c)
             | inr k ↦
-                let c' : Before u t (C (e t)) = at-node u t _ _ (omega (arith, l.high u j)) (at-max n u t c) in
-                let b' : Before t w (C (e t)) = at-node t w _ _ (omega (arith, l.high w (l.back w i))) b in
+                let c' : Before u t (C (e t)) = at_node u t _ _ (omega (arith, l.high u j)) (at_max n u t c) in
+                let b' : Before t w (C (e t)) = at_node t w _ _ (omega (arith, l.high w (l.back w i))) b in
                 least u (e t) k (before_trans (C (e t)) u t w (s.distinct (e t)) c' b')
           ],
         )
-        | inr free ↦ (w, l.back w i, λ u n j c. elim (l.out u j) [ inl q ↦ free (at-max n t w (rw q at c)) | inr k ↦ least u n k c ])
+        | inr free ↦ (w, l.back w i, λ u n j c. elim (l.out u j) [ inl q ↦ free (at_max n t w (rw q at c)) | inr k ↦ least u n k c ])
       ]
 
   least : (k x : ℕ) (xs : List ℕ) → length xs < k → Minimal C (x ∷ xs)
@@ -102,7 +102,7 @@ module _ (C : ℕ → List ℕ) (e : ℕ → ℕ) (s : Descending C e) where
 
       from : (l : Largest e x xs) (r : List ℕ) → (l.rest ≡ r) → ((y : ℕ) (ys : List ℕ) → length ys < k → Minimal C (y ∷ ys)) → Minimal C (x ∷ xs)
       from l [] q below = (l.top, l.its, λ u n j c. elim (l.out u j) [ inl p ↦ before_irrefl (C n) l.top (s.distinct n) (rw p at c) | inr i ↦ absurd (rw q at i) ])
-      from l (r ∷ rs) q below = from-rest x xs l (rw q (below r rs (omega (arith, l.long, ap length q))))
+      from l (r ∷ rs) q below = from_rest x xs l (rw q (below r rs (omega (arith, l.long, ap length q))))
 
 pub minimal_exists : (C : ℕ → List ℕ) (e : ℕ → ℕ) → Descending C e → (x : ℕ) (xs : List ℕ) → Minimal C (x ∷ xs)
 minimal_exists C e s x xs = least C e s (length (x ∷ xs)) x xs (omega arith)

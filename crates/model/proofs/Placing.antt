@@ -37,17 +37,17 @@ in_long (x ∷ xs) t i = omega arith
 
 -- what passes q passes p
 module _ (p q : ℕ → Bool) (part : (x : ℕ) → q x ≡ true → p x ≡ true) where
-  kept-fewer : (xs : List ℕ) → length (filter q xs) ≤ length (filter p xs)
-  kept-fewer [] = omega arith
-  kept-fewer (x ∷ xs) = elim (cases_Bool (q x)) [
-    | inl a ↦ simp (a, part x a) (omega (arith, kept-fewer xs))
-    | inr a ↦ elim (cases_Bool (p x)) [ inl b ↦ simp (a, b) (omega (arith, kept-fewer xs)) | inr b ↦ simp (a, b) (kept-fewer xs) ]
+  kept_fewer : (xs : List ℕ) → length (filter q xs) ≤ length (filter p xs)
+  kept_fewer [] = omega arith
+  kept_fewer (x ∷ xs) = elim (cases_Bool (q x)) [
+    | inl a ↦ simp (a, part x a) (omega (arith, kept_fewer xs))
+    | inr a ↦ elim (cases_Bool (p x)) [ inl b ↦ simp (a, b) (omega (arith, kept_fewer xs)) | inr b ↦ simp (a, b) (kept_fewer xs) ]
   ]
 
   -- and one passes p alone
   kept_less : (xs : List ℕ) (t : ℕ) → In t xs → p t ≡ true → q t ≡ false → length (filter q xs) < length (filter p xs)
   kept_less [] t i a b = absurd i
-  kept_less (x ∷ xs) t (inl z) a b = simp (ap q (sym z) ∙ b, ap p (sym z) ∙ a) (omega (arith, kept-fewer xs))
+  kept_less (x ∷ xs) t (inl z) a b = simp (ap q (sym z) ∙ b, ap p (sym z) ∙ a) (omega (arith, kept_fewer xs))
   kept_less (x ∷ xs) t (inr i) a b = elim (cases_Bool (q x)) [
     | inl c ↦ simp (c, part x c) (omega (arith, kept_less xs t i a b))
     | inr c ↦ elim (cases_Bool (p x)) [ inl d ↦ simp (c, d) (omega (arith, kept_less xs t i a b)) | inr d ↦ simp (c, d) (kept_less xs t i a b) ]
@@ -85,13 +85,13 @@ module _ (before : ℕ → ℕ) (count : ℕ) where
     unplaced : ℕ → List ℕ
     unplaced placed = filter (λ t. not (has placed t)) (below count)
 
-    is-unplaced : (placed t : ℕ) → t < count → (t ∈ placed → ⊥) → In t (unplaced placed)
+    is_unplaced : (placed t : ℕ) → t < count → (t ∈ placed → ⊥) → In t (unplaced placed)
     unfolding unplaced
-    is-unplaced placed t l f = kept_by_in _ (below count) t (below_in count t l) (not_from_false _ (lacks placed t f))
+    is_unplaced placed t l f = kept_by_in _ (below count) t (below_in count t l) (not_from_false _ (lacks placed t f))
 
-    unplaced-is : (placed t : ℕ) → In t (unplaced placed) → (t < count) × (t ∈ placed → ⊥)
+    unplaced_is : (placed t : ℕ) → In t (unplaced placed) → (t < count) × (t ∈ placed → ⊥)
     unfolding unplaced
-    unplaced-is placed t i =
+    unplaced_is placed t i =
         let (j, e) = in_kept_by (λ t. not (has placed t)) (below count) t i in
         (in_below count t j, both_ways (has placed t) (not-true _ e))
 
@@ -103,31 +103,31 @@ module _ (before : ℕ → ℕ) (count : ℕ) where
         (ap not ((joins placed t t l).1 (inr refl)))
 
     -- some unplaced one is ready, if there is any
-    some-ready : (placed t : ℕ) (U : List ℕ) → unplaced placed ≡ U → In t U → (w : ℕ) × (w < count) × (ready before placed w ≡ true)
-    some-ready placed t [] q i = absurd i
-    some-ready placed t (x ∷ xs) q i =
+    some_ready : (placed t : ℕ) (U : List ℕ) → unplaced placed ≡ U → In t U → (w : ℕ) × (w < count) × (ready before placed w ≡ true)
+    some_ready placed t [] q i = absurd i
+    some_ready placed t (x ∷ xs) q i =
         let (w, j, free) = least x xs in
-        let (l, f) = unplaced-is placed w (rw q j) in (
+        let (l, f) = unplaced_is placed w (rw q j) in (
           w,
           l,
           and_from _ _ (not_from_false _ (lacks placed w f)) ((within_members (before w) placed).1 (λ u b. elim (cases_in placed u) [
             | inl h ↦ h
-            | inr g ↦ absurd (free u (rw q at (is-unplaced placed u (inside u w b) g)) b)
+            | inr g ↦ absurd (free u (rw q at (is_unplaced placed u (inside u w b) g)) b)
           ])),
         )
 
-    placed-all : (k placed : ℕ) → length (unplaced placed) ≤ k → Placed placed (placing before count placed k)
-    placed-all zero placed h = record {
+    placed_all : (k placed : ℕ) → length (unplaced placed) ≤ k → Placed placed (placing before count placed k)
+    placed_all zero placed h = record {
       fresh = λ t i. absurd i;
       once = tt;
-      all = λ t l f. absurd (omega (arith, h, in_long (unplaced placed) t (is-unplaced placed t l f)));
+      all = λ t l f. absurd (omega (arith, h, in_long (unplaced placed) t (is_unplaced placed t l f)));
       after = λ u t i b. absurd i;
     }
-    placed-all (suc k) placed h = elim (lowest_cases (ready before placed) count) [
+    placed_all (suc k) placed h = elim (lowest_cases (ready before placed) count) [
       | inl (t, e, l, r) ↦
           let (new, pre) = and_parts (not (has placed t)) (within (before t) placed) r in
           let f : t ∈ placed → ⊥ = both_ways (has placed t) (not-true _ new) in
-          let q = placed-all k (with_member 32 placed t) (omega (arith, h, fewer placed t l f)) in
+          let q = placed_all k (with_member 32 placed t) (omega (arith, h, fewer placed t l f)) in
           subst⁻¹ (λ (o : Option ℕ). Placed placed (then o (λ t. placing before count (with_member 32 placed t) k))) e (record {
             fresh = λ u. elim [
               | inl z ↦ (rw z l, rw z f)
@@ -149,11 +149,11 @@ module _ (before : ℕ → ℕ) (count : ℕ) where
       | inr (e, none) ↦ subst⁻¹ (λ (o : Option ℕ). Placed placed (then o (λ t. placing before count (with_member 32 placed t) k))) e (record {
         fresh = λ t i. absurd i;
         once = tt;
-        all = λ t l f. let (w, m, r) = some-ready placed t (unplaced placed) refl (is-unplaced placed t l f) in absurd (none w m r);
+        all = λ t l f. let (w, m, r) = some_ready placed t (unplaced placed) refl (is_unplaced placed t l f) in absurd (none w m r);
         after = λ u t i b. absurd i;
       })
     ]
 
     pub all_placed : Placed 0 (placing before count 0 count)
     unfolding unplaced
-    all_placed = placed-all count 0 (omega (arith, kept_short (λ t. not (has 0 t)) (below count), length_below count))
+    all_placed = placed_all count 0 (omega (arith, kept_short (λ t. not (has 0 t)) (below count), length_below count))

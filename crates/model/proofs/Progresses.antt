@@ -17,9 +17,9 @@ use Rattle.model.proofs.Members.{lacks}
 use Rattle.model.proofs.Refusing.{none_applies}
 use Rattle.model.proofs.Inv.{Inv}
 use Rattle.model.proofs.Steps.{every_run}
-use Rattle.model.proofs.Waiters.{waiters, want, waiters-wait, is-waiter, free-or-held}
+use Rattle.model.proofs.Waiters.{waiters, want, waiters_wait, is_waiter, free_or_held}
 use Rattle.model.proofs.Standings.{Told, every_run_told}
-use Rattle.model.proofs.Explains.{holder-begun, explained}
+use Rattle.model.proofs.Explains.{holder_begun, explained}
 
 -- none of X is in a list where each of X has one of X before it
 no_first : (X : ℕ → Type 0) (L : List ℕ) → Distinct L → ((t : ℕ) → X t → In t L → (u : ℕ) × X u × Before u t L) → (t : ℕ) → X t → In t L → ⊥
@@ -50,31 +50,31 @@ module _ (first : Store) (h : List Event) (s : State) (i : Inv first s (lockers_
       )
 
   no_deadlock : (t : ℕ) (ts : List ℕ) → Deadlock s (t ∷ ts) → ⊥
-  no-deadlock t ts c =
+  no_deadlock t ts c =
       no_first (λ u. In u (t ∷ ts)) (serial_order s) x.once
       (λ u j k. let (n, w, a, b, m) = c u j in (w, m, x.waits u n w a b))
       t (inl refl) (let (n, w, a, b, m) = c t (inl refl) in (x.all t).1 (i.asks t n a).0)
 
   -- a holder is begun and not ended, so it waits
-  holder-waits : Standstill s → (u n : ℕ) → Holds s u n → In u (waiters s)
-  holder-waits still u n e =
-      let l = holder-begun first h s i n u e in
+  holder_waits : Standstill s → (u n : ℕ) → Holds s u n → In u (waiters s)
+  holder_waits still u n e =
+      let l = holder_begun first h s i n u e in
       elim (still u l) [
         | inl z ↦ absurd (no_member n (rw (i.spent u z) at ((i.holder_is n u).0 e)))
-        | inr (m, w) ↦ is-waiter s u m l w
+        | inr (m, w) ↦ is_waiter s u m l w
       ]
 
   goes_on : Standstill s → (t m : ℕ) → Waits s t m → (u : ℕ) × (n : ℕ) × Waits s u n × (answer s (lock u n) ≡ done (pos 0))
-  goes_on still t m w = elim (free-or-held s (waiters s)) [
-    | inl (u, j, e) ↦ (u, want s u, waiters-wait s u j, again u (want s u) (waiters-wait s u j) ∙ ap grant_or_wait e)
-    | inr f ↦ absurd (no-deadlock t (waiters s) (λ u j.
-        let k : In u (waiters s) = elim j [ inl q ↦ rw q (is-waiter s t m (i.asks t m w).0 w) | inr k ↦ k ] in
+  goes_on still t m w = elim (free_or_held s (waiters s)) [
+    | inl (u, j, e) ↦ (u, want s u, waiters_wait s u j, again u (want s u) (waiters_wait s u j) ∙ ap grant_or_wait e)
+    | inr f ↦ absurd (no_deadlock t (waiters s) (λ u j.
+        let k : In u (waiters s) = elim j [ inl q ↦ rw q (is_waiter s t m (i.asks t m w).0 w) | inr k ↦ k ] in
         let (v, e) = f u k in
-        (want s u, v, waiters-wait s u k, e, inr (holder-waits still v (want s u) e))))
+        (want s u, v, waiters_wait s u k, e, inr (holder_waits still v (want s u) e))))
   ]
 
   pub progress : Progress s
-  progress = record { again = again; no_deadlock = no-deadlock; goes_on = goes_on }
+  progress = record { again = again; no_deadlock = no_deadlock; goes_on = goes_on }
 
 pub every_session_progresses : EverySessionProgresses
 every_session_progresses rule store cs = progress store (session rule store cs).log (session rule store cs).state (every_run rule store cs) (every_run_told rule store cs)

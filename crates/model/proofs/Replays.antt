@@ -123,11 +123,11 @@ right_joined (x ∷ A) s f =
 
 -- B has the same accesses at each node as A, in the same order
 module _ (s : Store) (A B : List Access) (same : (n : ℕ) → at_node n B ≡ at_node n A) where
-  pub right-over : Right s A → Right s B
-  right-over r = right_joined B s (λ n. rw (same n) (right_at A n s s (alike_self n s) r))
+  pub right_over : Right s A → Right s B
+  right_over r = right_joined B s (λ n. rw (same n) (right_at A n s s (alike_self n s) r))
 
-  pub values-over : (n : ℕ) → (replay s B).values n ≡ (replay s A).values n
-  values-over n =
+  pub values_over : (n : ℕ) → (replay s B).values n ≡ (replay s A).values n
+  values_over n =
       (replay_at B n s s (alike_self n s)).value
       ∙ ap (λ l. (replay s l).values n) (same n)
       ∙ sym (replay_at A n s s (alike_self n s)).value

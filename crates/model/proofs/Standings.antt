@@ -62,11 +62,11 @@ PhaseKept s c t a = phase (after s c a) t ≡ phase_after (phase s t) c a t
 phase_step : (s : State) → length s.records ≡ 32 → (c : Call) (t : ℕ) → PhaseKept s c t (answer s c)
 phase_step s long begin t = refusing (PhaseKept s begin t) (begin_checks s) (done (pos s.begun)) (λ k. refl) (λ p. refl)
 phase_step s long (lock u n) t =
-    refusing (PhaseKept s (lock u n) t) (lock_checks s u n) (grant_or_wait (holder s n)) (λ k. sym (cond_same (eqb t u) (phase s t))) (λ p. by-holder (known s u long p.0) (holder s n))
+    refusing (PhaseKept s (lock u n) t) (lock_checks s u n) (grant_or_wait (holder s n)) (λ k. sym (cond_same (eqb t u) (phase s t))) (λ p. by_holder (known s u long p.0) (holder s n))
   where
-    by-holder : u < length s.records → (o : Option TransactionNumber) → PhaseKept s (lock u n) t (grant_or_wait o)
-    by-holder l None = phase_set s.records u t _ l
-    by-holder l (Some v) = phase_set s.records u t _ l
+    by_holder : u < length s.records → (o : Option TransactionNumber) → PhaseKept s (lock u n) t (grant_or_wait o)
+    by_holder l None = phase_set s.records u t _ l
+    by_holder l (Some v) = phase_set s.records u t _ l
 phase_step s long (release u n) t =
     refusing (PhaseKept s (release u n) t) (use_checks s u n) (done (pos 0)) (λ k. refl) (λ p. phase_same s.records u t _ (known s u long p.0) refl)
 phase_step s long (access u n op) t = any (answer s (access u n op))
@@ -86,11 +86,11 @@ HolderKept s c n a = holder (after s c a) n ≡ holder_after (holder s n) c a n
 holder_step : (s : State) → length s.holders ≡ 64 → (c : Call) (n : ℕ) → HolderKept s c n (answer s c)
 holder_step s long begin n = refusing (HolderKept s begin n) (begin_checks s) (done (pos s.begun)) (λ k. refl) (λ p. refl)
 holder_step s long (lock u m) n =
-    refusing (HolderKept s (lock u m) n) (lock_checks s u m) (grant_or_wait (holder s m)) (λ k. sym (cond_same (eqb n m) (holder s n))) (λ p. by-holder (node_known s m long p.1.1.0) (holder s m))
+    refusing (HolderKept s (lock u m) n) (lock_checks s u m) (grant_or_wait (holder s m)) (λ k. sym (cond_same (eqb n m) (holder s n))) (λ p. by_holder (node_known s m long p.1.1.0) (holder s m))
   where
-    by-holder : m < length s.holders → (o : Option TransactionNumber) → HolderKept s (lock u m) n (grant_or_wait o)
-    by-holder l None = at_set s.holders m n (Some (transaction u)) None l
-    by-holder l (Some v) = sym (cond_same (eqb n m) (holder s n))
+    by_holder : m < length s.holders → (o : Option TransactionNumber) → HolderKept s (lock u m) n (grant_or_wait o)
+    by_holder l None = at_set s.holders m n (Some (transaction u)) None l
+    by_holder l (Some v) = sym (cond_same (eqb n m) (holder s n))
 holder_step s long (release u m) n =
     refusing (HolderKept s (release u m) n) (use_checks s u m) (done (pos 0)) (λ k. sym (cond_same (eqb n m) (holder s n))) (λ p. at_set s.holders m n None None (node_known s m long p.1.1.0))
 holder_step s long (access u m op) n = any (answer s (access u m op))

@@ -19,8 +19,8 @@ use Rattle.model.proofs.Members.{◌∈◌}
 use Rattle.model.proofs.Refusing.{or_else_append, Cases, Passed, refused_cases, alike_cases}
 use Rattle.model.proofs.Phases.{not_waiting, same_node}
 use Rattle.model.proofs.Inv.{Asking, Inv, start_inv}
-use Rattle.model.proofs.Changes.{begun_kept, access-kept, phase-kept, released-kept, ended-kept}
-use Rattle.model.proofs.Grants.{granted-inv}
+use Rattle.model.proofs.Changes.{begun_kept, access_kept, phase_kept, released_kept, ended_kept}
+use Rattle.model.proofs.Grants.{granted_inv}
 
 lockers_push : (h : List Event) (e : Event) (n : ℕ) → lockers_of (h ++ (e ∷ [])) n ≡ lockers_of h n ++ grants_of e.call e.answer n
 lockers_push [] e n = append-nil _
@@ -76,43 +76,43 @@ module _ (first : Store) (r : Run) (i : Holding first r) where
   unfolding C A
   here = i
 
-  none-granted : (c : Call) (k : Refusal) (n : ℕ) → grants_of c (refused k) n ≡ []
-  none-granted begin k n = refl
-  none-granted (lock t m) k n = refl
-  none-granted (release t m) k n = refl
-  none-granted (access t m d) k n = refl
-  none-granted (withdraw t) k n = refl
-  none-granted (end t) k n = refl
+  none_granted : (c : Call) (k : Refusal) (n : ℕ) → grants_of c (refused k) n ≡ []
+  none_granted begin k n = refl
+  none_granted (lock t m) k n = refl
+  none_granted (release t m) k n = refl
+  none_granted (access t m d) k n = refl
+  none_granted (withdraw t) k n = refl
+  none_granted (end t) k n = refl
 
   refuses : (c : Call) (k : Refusal) → accessed c (refused k) ≡ [] → Next c (refused k)
-  refuses c k e = quiet c (refused k) (none-granted c k) e here
+  refuses c k e = quiet c (refused k) (none_granted c k) e here
 
   -- a call other than an access is refused or not
-  unless-any : (c : Call) (cs : List (Bool × Refusal)) → ((k : Refusal) → accessed c (refused k) ≡ [])
+  unless_any : (c : Call) (cs : List (Bool × Refusal)) → ((k : Refusal) → accessed c (refused k) ≡ [])
       → (Passed cs → Next c (unrefused r.state c)) → Next c (unless_refused (first_refusal cs) (unrefused r.state c))
-  unless-any c cs e f = refused_cases (Next c) cs (unrefused r.state c) (alike_cases (Next c) cs (unrefused r.state c) (λ k. refuses c k (e k)) f)
+  unless_any c cs e f = refused_cases (Next c) cs (unrefused r.state c) (alike_cases (Next c) cs (unrefused r.state c) (λ k. refuses c k (e k)) f)
 
   begins : Next begin (answer r.state begin)
-  begins = unless-any begin (begin_checks r.state) (λ k. refl) (λ p. quiet begin _ (λ n. refl) refl (begun_kept first r.state C A here (leb-false 32 _ p.0)))
+  begins = unless_any begin (begin_checks r.state) (λ k. refl) (λ p. quiet begin _ (λ n. refl) refl (begun_kept first r.state C A here (leb-false 32 _ p.0)))
 
   module _ (t : ℕ) where
-    is-begun : leb (begun_count r.state) t ≡ false → t < r.state.begun
-    is-begun e = omega (arith, leb-false (begun_count r.state) t e)
+    is_begun : leb (begun_count r.state) t ≡ false → t < r.state.begun
+    is_begun e = omega (arith, leb-false (begun_count r.state) t e)
 
     withdraws : Next (withdraw t) (answer r.state (withdraw t))
-    withdraws = unless-any (withdraw t) (withdraw_checks r.state t) (λ k. refl) (λ p. quiet (withdraw t) _ (λ n. refl) refl
-        (phase-kept first r.state C A here t (is-begun p.0) Open (λ n w. absurd (not_waiting Open (node n) refl w)) refl))
+    withdraws = unless_any (withdraw t) (withdraw_checks r.state t) (λ k. refl) (λ p. quiet (withdraw t) _ (λ n. refl) refl
+        (phase_kept first r.state C A here t (is_begun p.0) Open (λ n w. absurd (not_waiting Open (node n) refl w)) refl))
 
     ends : Next (end t) (answer r.state (end t))
-    ends = unless-any (end t) (end_checks r.state t) (λ k. refl) (λ p. quiet (end t) _ (λ n. refl) refl (ended-kept first r.state C A here t (is-begun p.0)))
+    ends = unless_any (end t) (end_checks r.state t) (λ k. refl) (λ p. quiet (end t) _ (λ n. refl) refl (ended_kept first r.state C A here t (is_begun p.0)))
 
     module _ (n : ℕ) where
       few : leb (count r.state) n ≡ false → n < 64
       few e = omega (arith, leb-false (count r.state) n e, r.state.rule.few)
 
       releases : Next (release t n) (answer r.state (release t n))
-      releases = unless-any (release t n) (use_checks r.state t n) (λ k. refl) (λ p. quiet (release t n) _ (λ m. refl) refl
-          (released-kept first r.state C A here t (is-begun p.0) n (few p.1.1.0)
+      releases = unless_any (release t n) (use_checks r.state t n) (λ k. refl) (λ p. quiet (release t n) _ (λ m. refl) refl
+          (released_kept first r.state C A here t (is_begun p.0) n (few p.1.1.0)
           (not-false _ p.1.1.1.1.0) p.1.1.1.0 p.1.0))
 
       module _ (h : n ∈ held r.state t) (c : n < r.state.store.count) where
@@ -121,7 +121,7 @@ module _ (first : Store) (r : Run) (i : Holding first r) where
             → replayed r.state.store n d ≡ store → store.count ≡ r.state.store.count → Next (access t n d) a
         notes d a store b q e z same = logged (access t n d) a _ (λ m. refl) b
             (subst⁻¹ (λ (x : State). Inv first x C (A ++ (record { by = t; node = n; operation = d; answer = a } ∷ []))) q
-            (access-kept first r.state C A here t n d a store h e z same))
+            (access_kept first r.state C A here t n d a store h e z same))
 
         does : (d : Operation) → replay_answer r.state.store n d ≡ done (result r.state.store n d)
             → replayed r.state.store n d ≡ performed r.state.store n d → Next (access t n d) (done (result r.state.store n d))
@@ -150,8 +150,8 @@ module _ (first : Store) (r : Run) (i : Holding first r) where
           ),
         )
 
-      accesses-node : (d : Operation) → Next (access t n d) (answer r.state (access t n d))
-      accesses-node d =
+      accesses_node : (d : Operation) → Next (access t n d) (answer r.state (access t n d))
+      accesses_node d =
           let no : (k : Refusal) → accessed (access t n d) (refused k) ≡ [] → Next (access t n d) (refused k) = refuses (access t n d) in
           rw (or_else_append (use_checks r.state t n) (operation_checks r.state.store n d))
           (refused_cases (Next (access t n d)) (use_checks r.state t n ++ operation_checks r.state.store n d) (unrefused r.state (access t n d)) (
@@ -178,17 +178,17 @@ module _ (first : Store) (r : Run) (i : Holding first r) where
           let ev : Event = record { call = lock t n; answer = done (pos 0) } in
           subst⁻¹ (λ (B : List Access). Inv first (after r.state (lock t n) (done (pos 0))) (lockers_of (r.log ++ (ev ∷ []))) B)
           (accesses_push r.log ev ∙ append-nil A)
-          (granted-inv first r.state C (lockers_of (r.log ++ (ev ∷ []))) A here t n l below asking e
+          (granted_inv first r.state C (lockers_of (r.log ++ (ev ∷ []))) A here t n l below asking e
           (lockers_push r.log ev n ∙ ap (λ b. C n ++ cond b (t ∷ []) []) (eq-eqb n n refl))
           (λ m f. lockers_push r.log ev m ∙ ap (λ b. C m ++ cond b (t ∷ []) []) (ne_eqb n m (λ q. f (sym q))) ∙ append-nil (C m)))
       locking l below asking (Some u) e =
           quiet (lock t n) (waiting u.0) (λ m. refl) refl
-          (phase-kept first r.state C A here t l (Waiting (node n))
+          (phase_kept first r.state C A here t l (Waiting (node n))
           (λ m w. let q : n ≡ m = same_node (Waiting (node n)) n m refl w in rw (← q) (asking.1, asking.2, asking.3)) refl)
 
       locks : Next (lock t n) (answer r.state (lock t n))
-      locks = unless-any (lock t n) (lock_checks r.state t n) (λ k. refl) (λ p.
-          let l : t < r.state.begun = is-begun p.0 in
+      locks = unless_any (lock t n) (lock_checks r.state t n) (λ k. refl) (λ p.
+          let l : t < r.state.begun = is_begun p.0 in
           locking l (few p.1.1.0)
           (l, both_ways (has (locked r.state t) n) p.1.1.1.1.0, not-false _ p.1.1.1.1.1.0, leb-false _ n p.1.1.0)
           (holder r.state n) refl)
@@ -197,7 +197,7 @@ pub step_holds : (first : Store) (r : Run) → Holding first r → (c : Call) �
 step_holds first r i begin = begins first r i
 step_holds first r i (lock t n) = locks first r i t n
 step_holds first r i (release t n) = releases first r i t n
-step_holds first r i (access t n d) = accesses-node first r i t n d
+step_holds first r i (access t n d) = accesses_node first r i t n d
 step_holds first r i (withdraw t) = withdraws first r i t
 step_holds first r i (end t) = ends first r i t
 

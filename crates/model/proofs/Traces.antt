@@ -21,49 +21,49 @@ one_joined [] A = refl
 one_joined (t ∷ L) A = ap (λ l. accesses_by t A ++ l) (one_joined L A)
 
 module _ {A : Type 0} where
-  kept-swap : (p q : A → Bool) (xs : List A) → filter p (filter q xs) ≡ filter q (filter p xs)
-  kept-swap p q [] = refl
-  kept-swap p q (x ∷ xs) = elim (cases_Bool (p x)) [
-    | inl a ↦ elim (cases_Bool (q x)) [ inl b ↦ simp (a, b) (ap (λ l. x ∷ l) (kept-swap p q xs)) | inr b ↦ simp (a, b) (kept-swap p q xs) ]
-    | inr a ↦ elim (cases_Bool (q x)) [ inl b ↦ simp (a, b) (kept-swap p q xs) | inr b ↦ simp (a, b) (kept-swap p q xs) ]
+  kept_swap : (p q : A → Bool) (xs : List A) → filter p (filter q xs) ≡ filter q (filter p xs)
+  kept_swap p q [] = refl
+  kept_swap p q (x ∷ xs) = elim (cases_Bool (p x)) [
+    | inl a ↦ elim (cases_Bool (q x)) [ inl b ↦ simp (a, b) (ap (λ l. x ∷ l) (kept_swap p q xs)) | inr b ↦ simp (a, b) (kept_swap p q xs) ]
+    | inr a ↦ elim (cases_Bool (q x)) [ inl b ↦ simp (a, b) (kept_swap p q xs) | inr b ↦ simp (a, b) (kept_swap p q xs) ]
   ]
 
   -- no element passes both
-  kept-none : (p q : A → Bool) → ((x : A) → p x ≡ true → q x ≡ true → ⊥) → (xs : List A) → filter p (filter q xs) ≡ []
-  kept-none p q f [] = refl
-  kept-none p q f (x ∷ xs) = elim (cases_Bool (q x)) [
-    | inl b ↦ elim (cases_Bool (p x)) [ inl a ↦ absurd (f x a b) | inr a ↦ simp (a, b) (kept-none p q f xs) ]
-    | inr b ↦ simp b (kept-none p q f xs)
+  kept_none : (p q : A → Bool) → ((x : A) → p x ≡ true → q x ≡ true → ⊥) → (xs : List A) → filter p (filter q xs) ≡ []
+  kept_none p q f [] = refl
+  kept_none p q f (x ∷ xs) = elim (cases_Bool (q x)) [
+    | inl b ↦ elim (cases_Bool (p x)) [ inl a ↦ absurd (f x a b) | inr a ↦ simp (a, b) (kept_none p q f xs) ]
+    | inr b ↦ simp b (kept_none p q f xs)
   ]
 
-  kept-joined : (p : A → Bool) (f : ℕ → List A) (L : List ℕ) → filter p (joined f L) ≡ joined (λ t. filter p (f t)) L
-  kept-joined p f [] = refl
-  kept-joined p f (t ∷ ts) = filter-append p (f t) (joined f ts) ∙ ap (λ l. filter p (f t) ++ l) (kept-joined p f ts)
+  kept_joined : (p : A → Bool) (f : ℕ → List A) (L : List ℕ) → filter p (joined f L) ≡ joined (λ t. filter p (f t)) L
+  kept_joined p f [] = refl
+  kept_joined p f (t ∷ ts) = filter-append p (f t) (joined f ts) ∙ ap (λ l. filter p (f t) ++ l) (kept_joined p f ts)
 
   joined_same : (f g : ℕ → List A) (L : List ℕ) → ((t : ℕ) → In t L → f t ≡ g t) → joined f L ≡ joined g L
   joined_same f g [] h = refl
   joined_same f g (t ∷ ts) h = ap₂ ◌++◌ (h t (inl refl)) (joined_same f g ts (λ u i. h u (inr i)))
 
-  joined-push : (f : ℕ → List A) (L : List ℕ) (t : ℕ) → joined f (L ++ (t ∷ [])) ≡ joined f L ++ f t
-  joined-push f [] t = append-nil (f t)
-  joined-push f (x ∷ xs) t = ap (λ l. f x ++ l) (joined-push f xs t) ∙ sym (append_assoc (f x) (joined f xs) (f t))
+  joined_push : (f : ℕ → List A) (L : List ℕ) (t : ℕ) → joined f (L ++ (t ∷ [])) ≡ joined f L ++ f t
+  joined_push f [] t = append-nil (f t)
+  joined_push f (x ∷ xs) t = ap (λ l. f x ++ l) (joined_push f xs t) ∙ sym (append_assoc (f x) (joined f xs) (f t))
 
   -- what is joined over L is joined over D, where D has all of L that counts, in L's order
-  joined-over : (f : ℕ → List A) (L D : List ℕ) → Distinct L → Distinct D
+  joined_over : (f : ℕ → List A) (L D : List ℕ) → Distinct L → Distinct D
       → ((u : ℕ) → In u D → In u L) → ((u w : ℕ) → Before w u L → Before u w D → ⊥)
       → ((u : ℕ) → In u L → (In u D → ⊥) → f u ≡ []) → joined f L ≡ joined f D
-  joined-over f [] [] a d sub agrees none = refl
-  joined-over f [] (y ∷ ys) a d sub agrees none = absurd (sub y (inl refl))
-  joined-over f (x ∷ xs) [] a d sub agrees none =
-      rw (none x (inl refl) (λ i. i)) (joined-over f xs [] a.1 tt (λ u i. absurd i) (λ u w b c. c) (λ u i j. none u (inr i) j))
-  joined-over f (x ∷ xs) (y ∷ ys) a d sub agrees none = elim (cases_eq x y) [
-    | inl q ↦ ap₂ ◌++◌ (ap f q) (joined-over f xs ys a.1 d.1
+  joined_over f [] [] a d sub agrees none = refl
+  joined_over f [] (y ∷ ys) a d sub agrees none = absurd (sub y (inl refl))
+  joined_over f (x ∷ xs) [] a d sub agrees none =
+      rw (none x (inl refl) (λ i. i)) (joined_over f xs [] a.1 tt (λ u i. absurd i) (λ u w b c. c) (λ u i j. none u (inr i) j))
+  joined_over f (x ∷ xs) (y ∷ ys) a d sub agrees none = elim (cases_eq x y) [
+    | inl q ↦ ap₂ ◌++◌ (ap f q) (joined_over f xs ys a.1 d.1
         (λ u i. elim (sub u (inr i)) [ inl z ↦ absurd (d.0 (in_at ys y u (sym (z ∙ q)) i)) | inr j ↦ j ])
         (λ u w b c. agrees u w (inr b) (inr c))
         (λ u i j. none u (inr i) (elim [ inl z ↦ a.0 (in_at xs x u (q ∙ sym z) i) | inr k ↦ j k ])))
     | inr ne ↦ elim (dec_in x ys) [
       | inl i ↦ absurd (elim (sub y (inl refl)) [ inl z ↦ ne (sym z) | inr j ↦ agrees y x (inl (refl, j)) (inl (refl, i)) ])
-      | inr out ↦ skip ne out (joined-over f xs (y ∷ ys) a.1 d)
+      | inr out ↦ skip ne out (joined_over f xs (y ∷ ys) a.1 d)
     ]
   ]
     where
@@ -88,20 +88,20 @@ by_none : (F : List Access) (D : List ℕ) (u : ℕ) → (In u D → ⊥) → ac
 by_none F [] u f = refl
 by_none F (t ∷ ts) u f =
     filter-append (λ a. eqb a.by u) (accesses_by t F) (joined (λ t. accesses_by t F) ts)
-    ∙ ap₂ ◌++◌ (kept-none (λ a. eqb a.by u) (λ a. eqb a.by t) (λ a p q. f (inl (sym (eqb-true _ _ p) ∙ eqb-true _ _ q))) F) (by_none F ts u (λ i. f (inr i)))
+    ∙ ap₂ ◌++◌ (kept_none (λ a. eqb a.by u) (λ a. eqb a.by t) (λ a p q. f (inl (sym (eqb-true _ _ p) ∙ eqb-true _ _ q))) F) (by_none F ts u (λ i. f (inr i)))
 
 module _ (C : ℕ → List ℕ) (trace : List Access) (traced : Traced C trace) where
   absent : (n u : ℕ) → (In u (C n) → ⊥) → accesses_by u (at_node n trace) ≡ []
   absent n u f = ap (accesses_by u) (traced n) ∙ by_none (at_node n trace) (C n) u f
 
   -- in series, in an order that agrees with each node's, the accesses of each node are the same
-  pub same-by-one : (L : List ℕ) (n : ℕ) → Distinct L → Distinct (C n) → ((u : ℕ) → In u (C n) → In u L)
+  pub same_by_one : (L : List ℕ) (n : ℕ) → Distinct L → Distinct (C n) → ((u : ℕ) → In u (C n) → In u L)
       → ((u w : ℕ) → Before w u L → Before u w (C n) → ⊥) → at_node n (serial L trace) ≡ at_node n trace
-  same-by-one L n a c sub agrees =
+  same_by_one L n a c sub agrees =
       ap (at_node n) (one_joined L trace)
-      ∙ kept-joined (λ x. eqb x.node n) (λ t. accesses_by t trace) L
-      ∙ joined_same (λ t. at_node n (accesses_by t trace)) (λ t. accesses_by t (at_node n trace)) L (λ t i. kept-swap (λ x. eqb x.node n) (λ x. eqb x.by t) trace)
-      ∙ joined-over (λ t. accesses_by t (at_node n trace)) L (C n) a c sub agrees (λ u i f. absent n u f)
+      ∙ kept_joined (λ x. eqb x.node n) (λ t. accesses_by t trace) L
+      ∙ joined_same (λ t. at_node n (accesses_by t trace)) (λ t. accesses_by t (at_node n trace)) L (λ t i. kept_swap (λ x. eqb x.node n) (λ x. eqb x.by t) trace)
+      ∙ joined_over (λ t. accesses_by t (at_node n trace)) L (C n) a c sub agrees (λ u i f. absent n u f)
       ∙ sym (traced n)
 
 node_here : (a : Access) (m : ℕ) → m ≡ a.node → (xs : List Access) → at_node m (xs ++ (a ∷ [])) ≡ at_node m xs ++ (a ∷ [])
@@ -119,10 +119,10 @@ by_other a t f xs = filter-append (λ x. eqb x.by t) xs (a ∷ []) ∙ rw (ne_eq
 joined_access : (a : Access) (F : List Access) (xs : List ℕ) → (In a.by xs → ⊥)
     → joined (λ t. accesses_by t (F ++ (a ∷ []))) (xs ++ (a.by ∷ [])) ≡ joined (λ t. accesses_by t F) (xs ++ (a.by ∷ [])) ++ (a ∷ [])
 joined_access a F xs f =
-    joined-push (λ t. accesses_by t (F ++ (a ∷ []))) xs a.by
+    joined_push (λ t. accesses_by t (F ++ (a ∷ []))) xs a.by
     ∙ ap₂ ◌++◌ (joined_same _ (λ t. accesses_by t F) xs (λ t i. by_other a t (λ q. f (in_at xs a.by t (sym q) i)) F)) (by_here a F)
     ∙ sym (append_assoc (joined (λ t. accesses_by t F) xs) (accesses_by a.by F) (a ∷ []))
-    ∙ ap (λ l. l ++ (a ∷ [])) (sym (joined-push (λ t. accesses_by t F) xs a.by))
+    ∙ ap (λ l. l ++ (a ∷ [])) (sym (joined_push (λ t. accesses_by t F) xs a.by))
 
 -- the last locker makes an access
 pub traced_access : (C : ℕ → List ℕ) (trace : List Access) → Traced C trace → (a : Access) (xs : List ℕ)
@@ -142,6 +142,6 @@ pub traced_grant : (C C' : ℕ → List ℕ) (trace : List Access) → Traced C 
 traced_grant C C' trace traced n t here elsewhere new m = elim (cases_eq m n) [
   | inl q ↦
       let f : ℕ → List Access = λ t. accesses_by t (at_node n trace) in
-      rw (q, here) (traced n ∙ sym (joined-push f (C n) t ∙ ap (λ l. joined f (C n) ++ l) (absent C trace traced n t new) ∙ append-nil _))
+      rw (q, here) (traced n ∙ sym (joined_push f (C n) t ∙ ap (λ l. joined f (C n) ++ l) (absent C trace traced n t new) ∙ append-nil _))
   | inr f ↦ rw (elsewhere m f) (traced m)
 ]

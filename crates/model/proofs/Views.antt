@@ -56,7 +56,7 @@ module _ (rule : Rule) where
   pub record Kept (s : View) : Type 0 where
     pub descending : Descending s.lockers s.entry
     pub locked_is : (n t : ℕ) → (n ∈ s.locked t) ↔ In t (s.lockers n)
-    pub held-last : (n t : ℕ) → n ∈ s.held t → (xs : List ℕ) × (s.lockers n ≡ xs ++ (t ∷ []))
+    pub held_last : (n t : ℕ) → n ∈ s.held t → (xs : List ℕ) × (s.lockers n ≡ xs ++ (t ∷ []))
     pub reason : (n u : ℕ) → In u (s.lockers n) → (n ≡ s.entry u) ⊎ Reason n (s.locked u)
     pub traced : Traced s.lockers s.trace
 

@@ -30,26 +30,26 @@ module _ (s : State) where
   pub want : ℕ → ℕ
   want t = waited (phase s t)
 
-  pub waiters-wait : (t : ℕ) → In t waiters → Waits s t (want t)
+  pub waiters_wait : (t : ℕ) → In t waiters → Waits s t (want t)
   unfolding waiters want
-  waiters-wait t j = waited_is (phase s t) (in_kept_by (λ t. is_waiting (phase s t)) (below s.begun) t j).1
+  waiters_wait t j = waited_is (phase s t) (in_kept_by (λ t. is_waiting (phase s t)) (below s.begun) t j).1
 
-  pub is-waiter : (t n : ℕ) → t < s.begun → Waits s t n → In t waiters
+  pub is_waiter : (t n : ℕ) → t < s.begun → Waits s t n → In t waiters
   unfolding waiters
-  is-waiter t n l w = kept_by_in (λ t. is_waiting (phase s t)) (below s.begun) t (below_in s.begun t l) (waits_for (phase s t) (node n) w)
+  is_waiter t n l w = kept_by_in (λ t. is_waiting (phase s t)) (below s.begun) t (below_in s.begun t l) (waits_for (phase s t) (node n) w)
 
   pub wants : (t n : ℕ) → Waits s t n → want t ≡ n
   unfolding want
   wants t n w = same_node (phase s t) (waited (phase s t)) n (waited_is (phase s t) (waits_for (phase s t) (node n) w)) w
 
-  pub waiters-distinct : Distinct waiters
+  pub waiters_distinct : Distinct waiters
   unfolding waiters
-  waiters-distinct = distinct_kept_by _ (below s.begun) (below_distinct s.begun)
+  waiters_distinct = distinct_kept_by _ (below s.begun) (below_distinct s.begun)
 
   -- one wants a free node, or all want held ones
-  pub free-or-held : (ts : List ℕ) → ((t : ℕ) × In t ts × (holder s (want t) ≡ None)) ⊎ ((t : ℕ) → In t ts → (u : ℕ) × Holds s u (want t))
-  free-or-held [] = inr (λ t j. absurd j)
-  free-or-held (x ∷ ts) = go (holder s (want x)) refl (free-or-held ts)
+  pub free_or_held : (ts : List ℕ) → ((t : ℕ) × In t ts × (holder s (want t) ≡ None)) ⊎ ((t : ℕ) → In t ts → (u : ℕ) × Holds s u (want t))
+  free_or_held [] = inr (λ t j. absurd j)
+  free_or_held (x ∷ ts) = go (holder s (want x)) refl (free_or_held ts)
     where
       go : (o : Option TransactionNumber) → holder s (want x) ≡ o
           → ((t : ℕ) × In t ts × (holder s (want t) ≡ None)) ⊎ ((t : ℕ) → In t ts → (u : ℕ) × Holds s u (want t))

@@ -21,8 +21,8 @@ module _ (s : State) (r : Result ℕ Refusal) (n : ℕ) (out : List ℕ) (ok : r
   parts = filled_there (short 32 (begun_count s)) n (serial_order s) (replicate 32 0) out (long_enough 32 (begun_count s) (omega arith)) (sym answers ∙ ok) leaves
 
   -- its n bytes are there
-  pub order-within : n ≤ length out
-  order-within = omega (arith, parts.0, ap length parts.1, length-append (serial_order s) (drop (length (serial_order s)) (replicate 32 0)))
+  pub order_within : n ≤ length out
+  order_within = omega (arith, parts.0, ap length parts.1, length-append (serial_order s) (drop (length (serial_order s)) (replicate 32 0)))
 
   -- and they are the order
   pub order_is : take n out ≡ serial_order s

@@ -28,15 +28,15 @@ module _ (c : ℕ) where
         λ l. p ∙ ap (onto x) (last (omega (arith, n))),
       )
 
-  pub cut-first : (xs : List ℕ) → Cut xs (piece_length c xs)
-  cut-first [] = (λ l. absurd (omega arith), λ l. refl)
-  cut-first (x ∷ xs) = cut_step x xs (eqb x c) refl (cut-first xs)
+  pub cut_first : (xs : List ℕ) → Cut xs (piece_length c xs)
+  cut_first [] = (λ l. absurd (omega arith), λ l. refl)
+  cut_first (x ∷ xs) = cut_step x xs (eqb x c) refl (cut_first xs)
 
   -- some piece is there
-  pub some-piece : (xs : List ℕ) → pieces c xs ≡ [] → ⊥
-  some-piece xs e = elim (cases_lt (piece_length c xs) (length xs)) [
-    | inl l ↦ let z : ◌≡◌ {A = ℕ} 0 1 = cc ((cut-first xs).0 l, e) in omega arith
-    | inr l ↦ let z : ◌≡◌ {A = ℕ} 0 1 = cc ((cut-first xs).1 l, e) in omega arith
+  pub some_piece : (xs : List ℕ) → pieces c xs ≡ [] → ⊥
+  some_piece xs e = elim (cases_lt (piece_length c xs) (length xs)) [
+    | inl l ↦ let z : ◌≡◌ {A = ℕ} 0 1 = cc ((cut_first xs).0 l, e) in omega arith
+    | inr l ↦ let z : ◌≡◌ {A = ℕ} 0 1 = cc ((cut_first xs).1 l, e) in omega arith
   ]
 
 -- past its end a line has no piece
@@ -56,10 +56,10 @@ cuts_at line i end l e w =
         | inl m ↦
             let k : i + (n + 1) ≡ end + 1 = omega arith in
             let r : pieces_from line (end + 1) ≡ pieces 32 (drop (end + 1) line) = cond-true (leb (end + 1) (length line)) (pieces 32 (drop (end + 1) line)) [] (le-leb (end + 1) (length line) (omega (arith, length-drop i line, m))) in
-            here ∙ (cut-first 32 xs).0 m ∙ ap (λ ys. take n xs ∷ pieces 32 ys) (drop-drop (n + 1) i line ∙ ap (λ j. drop j line) k) ∙ sym (ap (λ ps. take n xs ∷ ps) r)
+            here ∙ (cut_first 32 xs).0 m ∙ ap (λ ys. take n xs ∷ pieces 32 ys) (drop-drop (n + 1) i line ∙ ap (λ j. drop j line) k) ∙ sym (ap (λ ps. take n xs ∷ ps) r)
         | inr m ↦
             let r : pieces_from line (end + 1) ≡ [] = cond-false (leb (end + 1) (length line)) (pieces 32 (drop (end + 1) line)) [] (lt-leb (end + 1) (length line) (omega (arith, length-drop i line, m))) in
-            here ∙ (cut-first 32 xs).1 m ∙ ap (λ p. p ∷ []) (sym (take_all n xs m)) ∙ sym (ap (λ ps. take n xs ∷ ps) r)
+            here ∙ (cut_first 32 xs).1 m ∙ ap (λ p. p ∷ []) (sym (take_all n xs m)) ∙ sym (ap (λ ps. take n xs ∷ ps) r)
       ];
       onward = omega arith;
       within = omega arith;

@@ -104,21 +104,21 @@ module _ (q : List ℕ) (qs : List (List ℕ)) (is : word_of q ≡ Some slash) w
       go None = refl
       go (Some b) = refl
 
-  at-slash : (p : List ℕ) (ps : List (List ℕ)) → word_of p ≡ Some slash → Two (p ∷ ps)
-  at-slash p ps e b =
+  at_slash : (p : List ℕ) (ps : List (List ℕ)) → word_of p ≡ Some slash → Two (p ∷ ps)
+  at_slash p ps e b =
       let (none, all) = front_none (p ∷ ps) (plain_by_word p (Some slash) e) in
       let same : ps ≡ qs = cc in
       by_first_word p ps (Some slash) e ∙ ap (λ r. and_then (numbers r) (λ b. Some ([], b))) same ∙ sym (ap (λ a. and_then (numbers qs) (λ b. Some (a, b))) none)
 
-  two-by : (p : List ℕ) (ps : List (List ℕ)) (o : Option Word) → word_of p ≡ o → Two ps → Two (p ∷ ps)
-  two-by p ps None e h = not_at p ps None e refl (λ t. let c : ◌≡◌ {A = ℕ} 0 1 = cc in omega arith)
-  two-by p ps (Some (letter c)) e h = not_at p ps (Some (letter c)) e refl (λ t. let c : ◌≡◌ {A = ℕ} 0 1 = cc in omega arith)
-  two-by p ps (Some (number z)) e h = one_more p ps z (unsigned z) refl e h
-  two-by p ps (Some slash) e h = at-slash p ps e
+  two_by : (p : List ℕ) (ps : List (List ℕ)) (o : Option Word) → word_of p ≡ o → Two ps → Two (p ∷ ps)
+  two_by p ps None e h = not_at p ps None e refl (λ t. let c : ◌≡◌ {A = ℕ} 0 1 = cc in omega arith)
+  two_by p ps (Some (letter c)) e h = not_at p ps (Some (letter c)) e refl (λ t. let c : ◌≡◌ {A = ℕ} 0 1 = cc in omega arith)
+  two_by p ps (Some (number z)) e h = one_more p ps z (unsigned z) refl e h
+  two_by p ps (Some slash) e h = at_slash p ps e
 
-  pub two-lists-are : (ps : List (List ℕ)) → Two ps
-  two-lists-are [] = λ b. let c : ◌≡◌ {A = ℕ} 0 1 = cc in absurd (omega arith)
-  two-lists-are (p ∷ ps) = two-by p ps (word_of p) refl (two-lists-are ps)
+  pub two_lists_are : (ps : List (List ℕ)) → Two ps
+  two_lists_are [] = λ b. let c : ◌≡◌ {A = ℕ} 0 1 = cc in absurd (omega arith)
+  two_lists_are (p ∷ ps) = two_by p ps (word_of p) refl (two_lists_are ps)
 
 -- no slash behind the first list
 abbrev Slashless : List (List ℕ) → Type 0

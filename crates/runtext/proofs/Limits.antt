@@ -26,11 +26,11 @@ past_either a b c d t = grind (arith, nat_tests)
 
 -- all numbers are below what their limit does not pass
 pub each_below_limit : (k m : ℕ) (ns : List ℕ) → (leb m k && each_below k ns) ≡ leb (above m ns) k
-each_below_limit k m [] = and-true (leb m k)
+each_below_limit k m [] = and_true (leb m k)
   where
-    and-true : (b : Bool) → (b && true) ≡ b
-    and-true true = refl
-    and-true false = refl
+    and_true : (b : Bool) → (b && true) ≡ b
+    and_true true = refl
+    and_true false = refl
 each_below_limit k m (n ∷ ns) = step (each_below k ns) ∙ each_below_limit k (max m (n + 1)) ns
   where
     step : (b : Bool) → (leb m k && (ltb n k && b)) ≡ (leb (max m (n + 1)) k && b)

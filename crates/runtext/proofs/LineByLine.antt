@@ -11,7 +11,7 @@ use Rattle.runtext_model.specs.Pieces.{pieces}
 use Rattle.runtext_model.specs.Reading.{Outcome, stopped, last_piece, read_lines}
 use Rattle.runtext.specs.Left.{piece_length}
 use Rattle.runtext.specs.Of.{why, left}
-use Rattle.runtext.proofs.Cutting.{cut-first, some-piece}
+use Rattle.runtext.proofs.Cutting.{cut_first, some_piece}
 
 was_taken : (d : Description) (x : Result Description Refusal) → None ≡ why x → x ≡ Ok (left d x)
 was_taken d (Ok e) h = refl
@@ -47,12 +47,12 @@ module _ (text : List ℕ) (at end : ℕ) (is : end ≡ at + piece_length 10 (dr
         let n = piece_length 10 xs in
         let m : end - at ≡ n = omega arith in
         let k : at + (n + 1) ≡ end + 1 = omega arith in
-        (cut-first 10 xs).0 (omega (arith, length-drop at text))
+        (cut_first 10 xs).0 (omega (arith, length-drop at text))
         ∙ ap (λ i. take i xs ∷ pieces 10 (drop (n + 1) xs)) (sym m)
         ∙ ap (λ ys. piece ∷ pieces 10 ys) (drop-drop (n + 1) at text ∙ ap (λ j. drop j text) k)
 
     step : (d : Description) (line : ℕ) → read_lines d line at (pieces 10 (drop at text)) ≡ after_line d line at piece (pieces 10 (drop (end + 1) text)) (accepted d (line_of piece))
-    step d line = ap (read_lines d line at) cut ∙ one_line d line at piece (pieces 10 (drop (end + 1) text)) (some-piece 10 (drop (end + 1) text))
+    step d line = ap (read_lines d line at) cut ∙ one_line d line at piece (pieces 10 (drop (end + 1) text)) (some_piece 10 (drop (end + 1) text))
 
     pub line_taken : (d : Description) (line : ℕ) → None ≡ why (accepted d (line_of piece))
         → read_lines (left d (accepted d (line_of piece))) (line + 1) (end + 1) (pieces 10 (drop (end + 1) text)) ≡ read_lines d line at (pieces 10 (drop at text))
@@ -65,10 +65,10 @@ module _ (text : List ℕ) (at end : ℕ) (is : end ≡ at + piece_length 10 (dr
     line_refused d line e h = step d line ∙ ap (after_line d line at piece (pieces 10 (drop (end + 1) text))) (was_refused (accepted d (line_of piece)) e h)
 
   -- what stands after the last line feed
-  pub line-last : length text ≤ end → end ≤ length text → (d : Description) (line : ℕ) → read_lines d line at (pieces 10 (drop at text)) ≡ last_piece d line at piece
-  line-last l w d line =
+  pub line_last : length text ≤ end → end ≤ length text → (d : Description) (line : ℕ) → read_lines d line at (pieces 10 (drop at text)) ≡ last_piece d line at piece
+  line_last l w d line =
       let xs = drop at text in
-      ap (read_lines d line at) ((cut-first 10 xs).1 (omega (arith, length-drop at text))) ∙ ap (last_piece d line at) (sym (take_all (end - at) xs (omega (arith, length-drop at text))))
+      ap (read_lines d line at) ((cut_first 10 xs).1 (omega (arith, length-drop at text))) ∙ ap (last_piece d line at) (sym (take_all (end - at) xs (omega (arith, length-drop at text))))
 
 -- what is kept after one place is kept after a later one
 pub kept_later : {X : Type 0} (m n : ℕ) (xs ys zs : List X) → m ≤ n → drop n xs ≡ drop n ys → drop m ys ≡ drop m zs → drop n xs ≡ drop n zs

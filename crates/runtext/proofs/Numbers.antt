@@ -18,12 +18,12 @@ module _ (n : ℕ) (ds : List ℕ) (i : ℕ) where
   pub digits_more : i < length ds → is_digit (get_or ds i 0) ≡ true → digits_read n (drop i ds) ≡ digits_read (10 * n + (get_or ds i 0 - 48)) (drop (i + 1) ds)
   digits_more l d = at_drop_more (digits_read n) ds i 0 l ∙ digit_then n (get_or ds i 0) (drop (i + 1) ds) d
 
-  pub digits-bad : i < length ds → is_digit (get_or ds i 0) ≡ false → digits_read n (drop i ds) ≡ None
-  digits-bad l d = at_drop_more (digits_read n) ds i 0 l ∙ no_digit n (get_or ds i 0) (drop (i + 1) ds) d
+  pub digits_bad : i < length ds → is_digit (get_or ds i 0) ≡ false → digits_read n (drop i ds) ≡ None
+  digits_bad l d = at_drop_more (digits_read n) ds i 0 l ∙ no_digit n (get_or ds i 0) (drop (i + 1) ds) d
 
-  pub digits-done : length ds ≤ i → digits_read n (drop i ds) ≡ Some n
+  pub digits_done : length ds ≤ i → digits_read n (drop i ds) ≡ Some n
   unfolding digits_read
-  digits-done l = at_drop_all (digits_read n) ds i l
+  digits_done l = at_drop_all (digits_read n) ds i l
 
 pub numeral_sized : (ds : List ℕ) → sized ds ≡ true → numeral_read ds ≡ digits_read 0 ds
 unfolding numeral_read digits_read

@@ -40,33 +40,33 @@ with_table s ss ts nodes values guards = record {
 }
 
 module _ (s : Setup) (ss : List Step) (ts : List TransactionNumber) where
-  abbrev old-nodes : List Node
-  old-nodes = nodes_of s.table.plan
+  abbrev old_nodes : List Node
+  old_nodes = nodes_of s.table.plan
 
-  abbrev old-guards : List Guard
-  old-guards = guards_of s.table
+  abbrev old_guards : List Guard
+  old_guards = guards_of s.table
 
   -- a field of the right width and value is refused as the plan refuses it
-  pub node-refused-alike : (w : ℕ) (z : ℤ) (ns : List ℕ) → (leb 64 (length old-nodes) || not (good_width w && fits w z)) ≡ false
-      → line_refusal (description_of s ss ts) (node w z ns) ≡ node_refusal old-nodes w (map node_number ns)
-  node-refused-alike w z ns t =
-      let (few, field) = or_parts (leb 64 (length old-nodes)) _ t in
+  pub node_refused_alike : (w : ℕ) (z : ℤ) (ns : List ℕ) → (leb 64 (length old_nodes) || not (good_width w && fits w z)) ≡ false
+      → line_refusal (description_of s ss ts) (node w z ns) ≡ node_refusal old_nodes w (map node_number ns)
+  node_refused_alike w z ns t =
+      let (few, field) = or_parts (leb 64 (length old_nodes)) _ t in
       let wide = (and_parts (good_width w) _ (not-false _ field)).0 in
-      let rest = cond (good_parents (length old-nodes) (map node_number ns)) None (Some BadParents) in
+      let rest = cond (good_parents (length old_nodes) (map node_number ns)) None (Some BadParents) in
       ap (λ b. cond b (Some LimitExceeded) rest) t ∙ sym (ap₂ (λ (a b : Bool). cond (a || not b) (Some LimitExceeded) rest) few wide)
 
   -- the description with the node, from the table with the node
-  pub node-added : (w : ℕ) (z : ℤ) (ns : List ℕ) (nodes : List Node) (guards : List Guard) → length old-nodes < length s.values
-      → nodes ≡ with_node old-nodes w (map node_number ns) → guards ≡ old-guards
-      → with_line (description_of s ss ts) (node w z ns) ≡ with_table s ss ts nodes (take (length nodes) (set s.values (length old-nodes) z)) guards
-  node-added w z ns nodes guards l e g =
-      let new = with_node old-nodes w (map node_number ns) in
-      let long : length new ≡ length old-nodes + 1 = length_push old-nodes _ in
-      sym (ap₂ (λ (x : List Node) (y : List Guard). with_table s ss ts x (take (length x) (set s.values (length old-nodes) z)) y) e g
-      ∙ ap (λ n. with_table s ss ts new (take n (set s.values (length old-nodes) z)) old-guards) long
-      ∙ ap (λ vs. with_table s ss ts new vs old-guards) (take_more_set s.values (length old-nodes) z l))
+  pub node_added : (w : ℕ) (z : ℤ) (ns : List ℕ) (nodes : List Node) (guards : List Guard) → length old_nodes < length s.values
+      → nodes ≡ with_node old_nodes w (map node_number ns) → guards ≡ old_guards
+      → with_line (description_of s ss ts) (node w z ns) ≡ with_table s ss ts nodes (take (length nodes) (set s.values (length old_nodes) z)) guards
+  node_added w z ns nodes guards l e g =
+      let new = with_node old_nodes w (map node_number ns) in
+      let long : length new ≡ length old_nodes + 1 = length_push old_nodes _ in
+      sym (ap₂ (λ (x : List Node) (y : List Guard). with_table s ss ts x (take (length x) (set s.values (length old_nodes) z)) y) e g
+      ∙ ap (λ n. with_table s ss ts new (take n (set s.values (length old_nodes) z)) old_guards) long
+      ∙ ap (λ vs. with_table s ss ts new vs old_guards) (take_more_set s.values (length old_nodes) z l))
 
   -- nothing is added where the table stays
-  pub same-table : (nodes : List Node) (guards : List Guard) → nodes ≡ old-nodes → guards ≡ old-guards
+  pub same_table : (nodes : List Node) (guards : List Guard) → nodes ≡ old_nodes → guards ≡ old_guards
       → with_table s ss ts nodes (take (length nodes) s.values) guards ≡ description_of s ss ts
-  same-table nodes guards e g = ap₂ (λ (x : List Node) (y : List Guard). with_table s ss ts x (take (length x) s.values) y) e g
+  same_table nodes guards e g = ap₂ (λ (x : List Node) (y : List Guard). with_table s ss ts x (take (length x) s.values) y) e g

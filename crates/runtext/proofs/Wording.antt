@@ -28,26 +28,26 @@ pub word_number : (bs : List ℕ) → is_number bs ≡ true → word_of bs ≡ S
 word_number bs t = ap (λ n. chosen bs n (is_single is_capital bs) (is_single (λ b. eqb b 47) bs)) t
 
 module _ (bs : List ℕ) (t : is_number bs ≡ false) where
-  abbrev is-slash : Bool
-  is-slash = is_single (λ b. eqb b 47) bs
+  abbrev is_slash : Bool
+  is_slash = is_single (λ b. eqb b 47) bs
 
-  other : word_of bs ≡ chosen bs false (is_single is_capital bs) is-slash
-  other = ap (λ n. chosen bs n (is_single is_capital bs) is-slash) t
+  other : word_of bs ≡ chosen bs false (is_single is_capital bs) is_slash
+  other = ap (λ n. chosen bs n (is_single is_capital bs) is_slash) t
 
-  pub word-long : (length bs ≡ 1 → ⊥) → word_of bs ≡ None
-  word-long h =
+  pub word_long : (length bs ≡ 1 → ⊥) → word_of bs ≡ None
+  word_long h =
       let long = ne_eqb (length bs) 1 h in
-      other ∙ ap (λ l. chosen bs false l is-slash) (and_left (eqb (length bs) 1) _ long) ∙ ap (λ s. chosen bs false false s) (and_left (eqb (length bs) 1) _ long)
+      other ∙ ap (λ l. chosen bs false l is_slash) (and_left (eqb (length bs) 1) _ long) ∙ ap (λ s. chosen bs false false s) (and_left (eqb (length bs) 1) _ long)
 
   module _ (one : length bs ≡ 1) where
-    pub word-letter : is_capital (get_or bs 0 0) ≡ true → word_of bs ≡ Some (letter (get_or bs 0 0))
-    word-letter c = other ∙ ap (λ l. chosen bs false l is-slash) (and_from (eqb (length bs) 1) _ (eq-eqb (length bs) 1 one) c)
+    pub word_letter : is_capital (get_or bs 0 0) ≡ true → word_of bs ≡ Some (letter (get_or bs 0 0))
+    word_letter c = other ∙ ap (λ l. chosen bs false l is_slash) (and_from (eqb (length bs) 1) _ (eq-eqb (length bs) 1 one) c)
 
-    no-letter : is_capital (get_or bs 0 0) ≡ false → word_of bs ≡ chosen bs false false is-slash
-    no-letter c = other ∙ ap (λ l. chosen bs false l is-slash) (and_right (eqb (length bs) 1) _ c)
+    no_letter : is_capital (get_or bs 0 0) ≡ false → word_of bs ≡ chosen bs false false is_slash
+    no_letter c = other ∙ ap (λ l. chosen bs false l is_slash) (and_right (eqb (length bs) 1) _ c)
 
-    pub word-slash : is_capital (get_or bs 0 0) ≡ false → get_or bs 0 0 ≡ 47 → word_of bs ≡ Some slash
-    word-slash c e = no-letter c ∙ ap (λ s. chosen bs false false s) (and_from (eqb (length bs) 1) _ (eq-eqb (length bs) 1 one) (eq-eqb (get_or bs 0 0) 47 e))
+    pub word_slash : is_capital (get_or bs 0 0) ≡ false → get_or bs 0 0 ≡ 47 → word_of bs ≡ Some slash
+    word_slash c e = no_letter c ∙ ap (λ s. chosen bs false false s) (and_from (eqb (length bs) 1) _ (eq-eqb (length bs) 1 one) (eq-eqb (get_or bs 0 0) 47 e))
 
     pub word_none : is_capital (get_or bs 0 0) ≡ false → (get_or bs 0 0 ≡ 47 → ⊥) → word_of bs ≡ None
-    word_none c e = no-letter c ∙ ap (λ s. chosen bs false false s) (and_right (eqb (length bs) 1) _ (ne_eqb (get_or bs 0 0) 47 e))
+    word_none c e = no_letter c ∙ ap (λ s. chosen bs false false s) (and_right (eqb (length bs) 1) _ (ne_eqb (get_or bs 0 0) 47 e))

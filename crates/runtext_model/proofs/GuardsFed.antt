@@ -21,11 +21,11 @@ use Rattle.runtext_model.proofs.NodesFed.{made, element_at, more_than_done, next
 
 -- a lawful description has nodes
 pub some_nodes : (d : Description) → Lawful d → is_empty d.nodes ≡ false
-some_nodes d law = some-list d.nodes law.some
+some_nodes d law = some_list d.nodes law.some
   where
-    some-list : (ns : List Node) → 0 < length ns → is_empty ns ≡ false
-    some-list [] h = absurd (omega arith)
-    some-list (x ∷ ns) h = refl
+    some_list : (ns : List Node) → 0 < length ns → is_empty ns ≡ false
+    some_list [] h = absurd (omega arith)
+    some_list (x ∷ ns) h = refl
 
 -- a guard that is compatible with each
 compatible_all : (g : Guard) (done : List Guard) → ((i : ℕ) → i < length done → compatible g (get_or done i no_guard) ≡ true) → all_compatible g done ≡ true
@@ -60,37 +60,37 @@ module _ (d : Description) (law : Lawful d) where
       }
 
   -- the members of A and of B are nodes of the plan
-  a-low : (done : List Guard) (g : Guard) → Fine done g → (k : ℕ) → has g.a.mask k ≡ true → k < length d.nodes
-  a-low done g f k h =
+  a_low : (done : List Guard) (g : Guard) → Fine done g → (k : ℕ) → has g.a.mask k ≡ true → k < length d.nodes
+  a_low done g f k h =
       let (_, sets) = and_parts (not (eqb g.b.mask 0)) _ f.sound in
       let (_, part) = and_parts (within g.b.mask g.a.mask) _ sets in
       let parent = (within_members g.a.mask (parents_in d.nodes g.node.0)).0 part k h in
       omega (arith, law.lower g.node.0 k f.known parent, f.known)
 
-  b-low : (done : List Guard) (g : Guard) → Fine done g → (k : ℕ) → has g.b.mask k ≡ true → k < length d.nodes
-  b-low done g f k h =
+  b_low : (done : List Guard) (g : Guard) → Fine done g → (k : ℕ) → has g.b.mask k ≡ true → k < length d.nodes
+  b_low done g f k h =
       let (_, sets) = and_parts (not (eqb g.b.mask 0)) _ f.sound in
       let (part, _) = and_parts (within g.b.mask g.a.mask) _ sets in
-      a-low done g f k ((within_members g.b.mask g.a.mask).0 part k h)
+      a_low done g f k ((within_members g.b.mask g.a.mask).0 part k h)
 
   -- the guard of its members is the guard
-  same-guard : (done : List Guard) (g : Guard) → Fine done g → guard_from (node_number g.node.0) (map node_number (members g.a.mask)) (map node_number (members g.b.mask)) ≡ g
-  same-guard done g f =
-      let a = members_set g.a.mask (λ k h. omega (arith, a-low done g f k h, law.few)) in
-      let b = members_set g.b.mask (λ k h. omega (arith, b-low done g f k h, law.few)) in
+  same_guard : (done : List Guard) (g : Guard) → Fine done g → guard_from (node_number g.node.0) (map node_number (members g.a.mask)) (map node_number (members g.b.mask)) ≡ g
+  same_guard done g f =
+      let a = members_set g.a.mask (λ k h. omega (arith, a_low done g f k h, law.few)) in
+      let b = members_set g.b.mask (λ k h. omega (arith, b_low done g f k h, law.few)) in
       ap (λ m. record { node = g.node; a = record { mask = m }; b = record { mask = gathered 0 (map node_number (members g.b.mask)) } }) a
       ∙ ap (λ m. record { node = g.node; a = g.a; b = record { mask = m } }) b
 
   -- so it is not refused
-  guard-unrefused : (done : List Guard) (g : Guard) → Fine done g → guard_refusal d.nodes done (node_number g.node.0) (map node_number (members g.a.mask)) (map node_number (members g.b.mask)) ≡ None
-  guard-unrefused done g f =
+  guard_unrefused : (done : List Guard) (g : Guard) → Fine done g → guard_refusal d.nodes done (node_number g.node.0) (map node_number (members g.a.mask)) (map node_number (members g.b.mask)) ≡ None
+  guard_unrefused done g f =
       let a = members g.a.mask in
       let b = members g.b.mask in
       let count = length d.nodes in
-      let same = same-guard done g f in
+      let same = same_guard done g f in
       let limits : in_limits d.nodes done (node_number g.node.0) (map node_number a) (map node_number b) ≡ true =
       and_from _ _ (lt-ltb (length done) 256 f.room) (and_from _ _ (lt-ltb g.node.0 count f.known)
-      (and_from _ _ (members_lie g.a.mask count (a-low done g f)) (members_lie g.b.mask count (b-low done g f)))) in
+      (and_from _ _ (members_lie g.a.mask count (a_low done g f)) (members_lie g.b.mask count (b_low done g f)))) in
       let good : good_guard d.nodes (node_number g.node.0) (map node_number a) (map node_number b) ≡ true =
       and_from _ _ (members_up g.a.mask) (and_from _ _ (members_up g.b.mask)
       (ap (fits (parents_in d.nodes g.node.0)) same ∙ f.sound)) in
@@ -98,22 +98,22 @@ module _ (d : Description) (law : Lawful d) where
       ∙ cond-false _ _ _ (not_from_true _ (ap (λ x. all_compatible x done) same ∙ f.apart))
 
   -- from those that are done on
-  guards-from : is_guards d.kind ≡ true → (done rest : List Guard) → d.guards ≡ done ++ rest → Takes (made d.kind d.nodes d.values done 0 [] None) (guard_lines rest) (made d.kind d.nodes d.values d.guards 0 [] None)
-  guards-from ruled done [] e = ap (λ gs. made d.kind d.nodes d.values gs 0 [] None) (sym (e ∙ append-nil done))
-  guards-from ruled done (g ∷ rest) e =
+  guards_from : is_guards d.kind ≡ true → (done rest : List Guard) → d.guards ≡ done ++ rest → Takes (made d.kind d.nodes d.values done 0 [] None) (guard_lines rest) (made d.kind d.nodes d.values d.guards 0 [] None)
+  guards_from ruled done [] e = ap (λ gs. made d.kind d.nodes d.values gs 0 [] None) (sym (e ∙ append-nil done))
+  guards_from ruled done (g ∷ rest) e =
       let f = fine done rest g e in
       takes_one (made d.kind d.nodes d.values done 0 [] None) (made d.kind d.nodes d.values (done ++ (g ∷ [])) 0 [] None) (made d.kind d.nodes d.values d.guards 0 [] None)
       (guard g.node.0 (members g.a.mask) (members g.b.mask)) (guard_lines rest)
       (omega (arith, f.known, law.few), members_small g.a.mask, members_small g.b.mask)
       (and_from (is_guards d.kind) _ ruled (and_from _ true (not_from_false _ (some_nodes d law)) refl))
-      (guard-unrefused done g f)
-      (ap (λ x. made d.kind d.nodes d.values (done ++ (x ∷ [])) 0 [] None) (same-guard done g f))
-      (guards-from ruled (done ++ (g ∷ [])) rest (next_done d.guards done rest g e))
+      (guard_unrefused done g f)
+      (ap (λ x. made d.kind d.nodes d.values (done ++ (x ∷ [])) 0 [] None) (same_guard done g f))
+      (guards_from ruled (done ++ (g ∷ [])) rest (next_done d.guards done rest g e))
 
   -- the guards' lines of a lawful description
-  pub takes-guards : Takes (made d.kind d.nodes d.values [] 0 [] None) (guard_lines d.guards) (made d.kind d.nodes d.values d.guards 0 [] None)
-  takes-guards = elim (cases_Bool (is_guards d.kind)) [
-    | inl t ↦ guards-from t [] d.guards refl
+  pub takes_guards : Takes (made d.kind d.nodes d.values [] 0 [] None) (guard_lines d.guards) (made d.kind d.nodes d.values d.guards 0 [] None)
+  takes_guards = elim (cases_Bool (is_guards d.kind)) [
+    | inl t ↦ guards_from t [] d.guards refl
     | inr f ↦
         let none = law.guarded f in
         subst (λ gs. Takes (made d.kind d.nodes d.values [] 0 [] None) (guard_lines gs) (made d.kind d.nodes d.values gs 0 [] None)) (sym none) refl

@@ -89,14 +89,14 @@ fine_unrefused d n x v same f =
 -- all the nodes' lines, where each node is fine
 module _ (k : Option RuleKind) (ruled : is_some k ≡ true) (ns : List Node) (vs : List ℤ) (valued : length vs ≡ length ns) (fine : (n : ℕ) → n < length ns → Fine n (node_at ns n) (get_or vs n (pos 0))) where
   -- from those that are done on
-  nodes-from : (done : List Node) (past : List ℤ) (rest : List Node) (left : List ℤ) → ns ≡ done ++ rest → vs ≡ past ++ left → length past ≡ length done → Takes (made k done past [] 0 [] None) (node_lines rest left) (made k ns vs [] 0 [] None)
-  nodes-from done past [] [] e f same =
+  nodes_from : (done : List Node) (past : List ℤ) (rest : List Node) (left : List ℤ) → ns ≡ done ++ rest → vs ≡ past ++ left → length past ≡ length done → Takes (made k done past [] 0 [] None) (node_lines rest left) (made k ns vs [] 0 [] None)
+  nodes_from done past [] [] e f same =
       let n = e ∙ append-nil done in
       let v = f ∙ append-nil past in
       cc
-  nodes-from done past [] (v ∷ left) e f same = absurd (omega (arith, ap length e, ap length f, length-append done [], length-append past (v ∷ left)))
-  nodes-from done past (x ∷ rest) [] e f same = absurd (omega (arith, ap length e, ap length f, length-append done (x ∷ rest), length-append past []))
-  nodes-from done past (x ∷ rest) (v ∷ left) e f same =
+  nodes_from done past [] (v ∷ left) e f same = absurd (omega (arith, ap length e, ap length f, length-append done [], length-append past (v ∷ left)))
+  nodes_from done past (x ∷ rest) [] e f same = absurd (omega (arith, ap length e, ap length f, length-append done (x ∷ rest), length-append past []))
+  nodes_from done past (x ∷ rest) (v ∷ left) e f same =
       let n = length done in
       let here = element_at ns done rest x no_node e in
       let value : get_or vs n (pos 0) ≡ v = ap (λ i. get_or vs i (pos 0)) (sym same) ∙ element_at vs past left v (pos 0) f in
@@ -108,12 +108,12 @@ module _ (k : Option RuleKind) (ruled : is_some k ≡ true) (ns : List Node) (vs
       (and_from (is_some k) true ruled refl)
       (fine_unrefused (made k done past [] 0 [] None) n x v refl good)
       (ap (λ y. made k (done ++ (record { width = x.width; parents = record { mask = y } } ∷ [])) (past ++ (v ∷ [])) [] 0 [] None) (members_set m (fine_low n x v good)))
-      (nodes-from (done ++ (x ∷ [])) (past ++ (v ∷ [])) rest left (next_done ns done rest x e) (next_done vs past left v f) (simp length_push (omega (arith, same))))
+      (nodes_from (done ++ (x ∷ [])) (past ++ (v ∷ [])) rest left (next_done ns done rest x e) (next_done vs past left v f) (simp length_push (omega (arith, same))))
 
 -- the nodes' lines of a lawful description
 pub takes_nodes : (d : Description) → Lawful d → Takes (made d.kind [] [] [] 0 [] None) (node_lines d.nodes d.values) (made d.kind d.nodes d.values [] 0 [] None)
 takes_nodes d law =
-    nodes-from d.kind law.ruled d.nodes d.values law.valued
+    nodes_from d.kind law.ruled d.nodes d.values law.valued
     (λ n l. record {
       early = omega (arith, law.few);
       wide = law.wide n l;

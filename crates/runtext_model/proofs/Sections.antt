@@ -68,17 +68,17 @@ taken d l e h = elim (cases_Bool (in_section d l)) [
 
 -- one more line in its section
 module _ (r n g s : List Line) (l : Line) where
-  place-node : r ++ ((n ++ (l ∷ [])) ++ []) ≡ (r ++ (n ++ [])) ++ (l ∷ [])
-  place-node = simp (append-nil, append_assoc)
+  place_node : r ++ ((n ++ (l ∷ [])) ++ []) ≡ (r ++ (n ++ [])) ++ (l ∷ [])
+  place_node = simp (append-nil, append_assoc)
 
-  place-guard : r ++ (n ++ ((g ++ (l ∷ [])) ++ [])) ≡ (r ++ (n ++ (g ++ []))) ++ (l ∷ [])
-  place-guard = simp (append-nil, append_assoc)
+  place_guard : r ++ (n ++ ((g ++ (l ∷ [])) ++ [])) ≡ (r ++ (n ++ (g ++ []))) ++ (l ∷ [])
+  place_guard = simp (append-nil, append_assoc)
 
-  place-step : r ++ (n ++ (g ++ ((s ++ (l ∷ [])) ++ []))) ≡ (r ++ (n ++ (g ++ (s ++ [])))) ++ (l ∷ [])
-  place-step = simp (append-nil, append_assoc)
+  place_step : r ++ (n ++ (g ++ ((s ++ (l ∷ [])) ++ []))) ≡ (r ++ (n ++ (g ++ (s ++ [])))) ++ (l ∷ [])
+  place_step = simp (append-nil, append_assoc)
 
-  place-turns : r ++ (n ++ (g ++ (s ++ (l ∷ [])))) ≡ (r ++ (n ++ (g ++ (s ++ [])))) ++ (l ∷ [])
-  place-turns = simp (append-nil, append_assoc)
+  place_turns : r ++ (n ++ (g ++ (s ++ (l ∷ [])))) ≡ (r ++ (n ++ (g ++ (s ++ [])))) ++ (l ∷ [])
+  place_turns = simp (append-nil, append_assoc)
 
 -- the lines of nodes, one node further
 nodes_push : (xs : List Node) (vs : List ℤ) (x : Node) (v : ℤ) → length vs ≡ length xs → node_lines (xs ++ (x ∷ [])) (vs ++ (v ∷ [])) ≡ node_lines xs vs ++ (node x.width v (members x.parents.mask) ∷ [])
@@ -171,7 +171,7 @@ adds d (node w v ps) o p u =
     let known = node_known d w v ps u in
     let line : node_lines (with_line d (node w v ps)).nodes (with_line d (node w v ps)).values ≡ node_lines d.nodes d.values ++ (node w v ps ∷ []) =
     nodes_push d.nodes d.values _ v o.same ∙ ap (λ xs. node_lines d.nodes d.values ++ (node w v xs ∷ [])) known.listed in
-    rw (line, empty_is d.guards bare, steps, last) (place-node (rule_lines d.kind) (node_lines d.nodes d.values) [] [] (node w v ps))
+    rw (line, empty_is d.guards bare, steps, last) (place_node (rule_lines d.kind) (node_lines d.nodes d.values) [] [] (node w v ps))
 adds d (guard n a b) o p u =
     let (_, after) = and_parts (is_guards d.kind) _ p in
     let (steps, last) = scripts_none d (and_parts (not (is_empty d.nodes)) _ after).1 in
@@ -179,20 +179,20 @@ adds d (guard n a b) o p u =
     let line : guard_lines (with_line d (guard n a b)).guards ≡ guard_lines d.guards ++ (guard n a b ∷ []) =
     map_push _ d.guards _ ∙ ap (λ xs. guard_lines d.guards ++ (guard n xs (members (gathered 0 (map node_number b))) ∷ [])) one
     ∙ ap (λ xs. guard_lines d.guards ++ (guard n a xs ∷ [])) two in
-    rw (line, steps, last) (place-guard (rule_lines d.kind) (node_lines d.nodes d.values) (guard_lines d.guards) [] (guard n a b))
+    rw (line, steps, last) (place_guard (rule_lines d.kind) (node_lines d.nodes d.values) (guard_lines d.guards) [] (guard n a b))
 adds d script o p u =
     let (_, last) = turns_none d p in
     let line = map_push entry_line d.steps End in
-    rw (line, last) (place-step (rule_lines d.kind) (node_lines d.nodes d.values) (guard_lines d.guards) (map entry_line d.steps) script)
+    rw (line, last) (place_step (rule_lines d.kind) (node_lines d.nodes d.values) (guard_lines d.guards) (map entry_line d.steps) script)
 adds d (step s) o p u =
     let (_, last) = turns_none d (and_parts (not (is_empty d.steps)) _ p).1 in
     let good = (and_parts (room_for_step d) _ (no_limit _ u)).1 in
     let line : map entry_line (d.steps ++ (s ∷ [])) ≡ map entry_line d.steps ++ (step s ∷ []) =
     map_push entry_line d.steps s ∙ ap (λ l. map entry_line d.steps ++ (l ∷ [])) (step_entry (length d.nodes) s good) in
-    rw (line, last) (place-step (rule_lines d.kind) (node_lines d.nodes d.values) (guard_lines d.guards) (map entry_line d.steps) (step s))
+    rw (line, last) (place_step (rule_lines d.kind) (node_lines d.nodes d.values) (guard_lines d.guards) (map entry_line d.steps) (step s))
 adds d (turns ts) o p u =
     let (_, none) = turns_none d p in
-    rw (turns_back ts, none) (place-turns (rule_lines d.kind) (node_lines d.nodes d.values) (guard_lines d.guards) (map entry_line d.steps) (turns ts))
+    rw (turns_back ts, none) (place_turns (rule_lines d.kind) (node_lines d.nodes d.values) (guard_lines d.guards) (map entry_line d.steps) (turns ts))
 
 -- the sections stay in order
 keeps : (d : Description) (l : Line) → Ordered d → in_section d l ≡ true → line_refusal d l ≡ None → Ordered (with_line d l)

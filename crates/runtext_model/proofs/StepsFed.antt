@@ -92,20 +92,20 @@ module _ (d : Description) (law : Lawful d) where
   placed ss = and_from _ true (not_from_false _ (some_nodes d law)) refl
 
   -- the buffer begins with an end
-  first-end : (done rest : List Step) (s : Step) → d.steps ≡ done ++ (s ∷ rest) → (s ≡ End → ⊥) → is_empty done ≡ false
-  first-end [] rest s e other =
+  first_end : (done rest : List Step) (s : Step) → d.steps ≡ done ++ (s ∷ rest) → (s ≡ End → ⊥) → is_empty done ≡ false
+  first_end [] rest s e other =
       absurd (other (sym (element_at d.steps [] rest s (Lock (record { 0 = 0 })) e) ∙ law.first (more_than_done d.steps [] rest s e)))
-  first-end (x ∷ done) rest s e other = refl
+  first_end (x ∷ done) rest s e other = refl
 
   -- from those that are done on
-  steps-from : (done rest : List Step) → d.steps ≡ done ++ rest → Takes (stage d done) (map entry_line rest) (stage d d.steps)
-  steps-from done [] e = ap (stage d) (sym (e ∙ append-nil done))
-  steps-from done (s ∷ rest) e =
+  steps_from : (done rest : List Step) → d.steps ≡ done ++ rest → Takes (stage d done) (map entry_line rest) (stage d d.steps)
+  steps_from done [] e = ap (stage d) (sym (e ∙ append-nil done))
+  steps_from done (s ∷ rest) e =
       let more = more_than_done d.steps done rest s e in
       let here = element_at d.steps done rest s End e in
       let room : room_for_step (stage d done) ≡ true = lt-ltb (length done) 1024 (omega (arith, law.few_steps)) in
       let grown = ends_append done (s ∷ []) in
-      let next = steps-from (done ++ (s ∷ [])) rest (next_done d.steps done rest s e) in
+      let next = steps_from (done ++ (s ∷ [])) rest (next_done d.steps done rest s e) in
       elim (entry_cases s) [
         | inl end ↦
             let total : ends d.steps ≡ ends done + (1 + ends rest) = ap ends e ∙ ends_append done (s ∷ rest) ∙ ap (λ x. ends done + ends (x ∷ rest)) end in
@@ -123,18 +123,18 @@ module _ (d : Description) (law : Lawful d) where
             subst (λ l. Takes (stage d done) (l ∷ map entry_line rest) (stage d d.steps)) (sym p.line)
             (takes_one (stage d done) (stage d (done ++ (s ∷ []))) (stage d d.steps) (step s) (map entry_line rest)
             (small_step (length d.nodes) s law.few good)
-            (and_from _ _ (not_from_false _ (first-end done rest s e p.other)) (placed done)) (ap limit_unless (and_from _ _ room good))
+            (and_from _ _ (not_from_false _ (first_end done rest s e p.other)) (placed done)) (ap limit_unless (and_from _ _ room good))
             (ap (λ c. made d.kind d.nodes d.values d.guards c (done ++ (s ∷ [])) None) same) next)
       ]
 
   -- the lines of all steps
-  pub takes-steps : Takes (stage d []) (map entry_line d.steps) (stage d d.steps)
-  takes-steps = steps-from [] d.steps refl
+  pub takes_steps : Takes (stage d []) (map entry_line d.steps) (stage d d.steps)
+  takes_steps = steps_from [] d.steps refl
 
   -- the turn list of a description
-  turns-from : (t : Option (List TransactionNumber)) → GoodTurns d.scripts t → Takes (stage d d.steps) (turn_lines t) (made d.kind d.nodes d.values d.guards (ends d.steps) d.steps t)
-  turns-from None h = refl
-  turns-from (Some ts) (short, each) =
+  turns_from : (t : Option (List TransactionNumber)) → GoodTurns d.scripts t → Takes (stage d d.steps) (turn_lines t) (made d.kind d.nodes d.values d.guards (ends d.steps) d.steps t)
+  turns_from None h = refl
+  turns_from (Some ts) (short, each) =
       let ns = map (λ t. t.0) ts in
       let below = turns_below d.scripts ts each in
       let few : length ns ≤ 4096 = omega (arith, length-map ts (λ t. t.0)) in
@@ -147,8 +147,8 @@ module _ (d : Description) (law : Lawful d) where
       refl
 
   -- the turn list's line, where there is one
-  pub takes-turns : Takes (stage d d.steps) (turn_lines d.turns) d
-  takes-turns =
+  pub takes_turns : Takes (stage d d.steps) (turn_lines d.turns) d
+  takes_turns =
       subst (Takes (stage d d.steps) (turn_lines d.turns))
       (ap (λ c. made d.kind d.nodes d.values d.guards c d.steps d.turns) (sym law.counted))
-      (turns-from d.turns law.turned)
+      (turns_from d.turns law.turned)

@@ -42,11 +42,11 @@ module _ (es : List Step) (i : ℕ) (h : i < length es) (found : List Cursor) (i
   pub no_end : (step_at es i ≡ End → ⊥) → cursors_from 0 es ≡ found ++ cursors_from (i + 1) (drop (i + 1) es)
   no_end f = inv ∙ ap (λ cs. found ++ cs) (ahead ∙ begins_none (step_at es i) f (i + 1) _)
 
-  at-end : step_at es i ≡ End → cursors_from 0 es ≡ found ++ (At (i + 1) ∷ cursors_from (i + 1) (drop (i + 1) es))
-  at-end e = inv ∙ ap (λ cs. found ++ cs) (ahead ∙ ap (λ e. begins_at (action_of e) (i + 1) (cursors_from (i + 1) (drop (i + 1) es))) e)
+  at_end : step_at es i ≡ End → cursors_from 0 es ≡ found ++ (At (i + 1) ∷ cursors_from (i + 1) (drop (i + 1) es))
+  at_end e = inv ∙ ap (λ cs. found ++ cs) (ahead ∙ ap (λ e. begins_at (action_of e) (i + 1) (cursors_from (i + 1) (drop (i + 1) es))) e)
 
-  pub one-too-many : step_at es i ≡ End → length found < length (scripts_of es)
-  one-too-many e = omega (arith, same_count es, ap length (at-end e), length-append found (At (i + 1) ∷ cursors_from (i + 1) (drop (i + 1) es)))
+  pub one_too_many : step_at es i ≡ End → length found < length (scripts_of es)
+  one_too_many e = omega (arith, same_count es, ap length (at_end e), length-append found (At (i + 1) ∷ cursors_from (i + 1) (drop (i + 1) es)))
 
 -- the next cursor is put behind those in the array
 pub one_found : (es : List Step) (i : ℕ) → i < length es → (cursors : List Cursor) (count : ℕ) → count < length cursors
@@ -54,7 +54,7 @@ pub one_found : (es : List Step) (i : ℕ) → i < length es → (cursors : List
     → cursors_from 0 es ≡ take (count + 1) (set cursors count (At (i + 1))) ++ cursors_from (i + 1) (drop (i + 1) es)
 one_found es i h cursors count room inv e =
     let rest = cursors_from (i + 1) (drop (i + 1) es) in
-    at-end es i h (take count cursors) inv e
+    at_end es i h (take count cursors) inv e
     ∙ sym (append_snoc (take count cursors) (At (i + 1)) rest)
     ∙ ap (λ (cs : List Cursor). cs ++ rest)
     (sym (take-suc-set cursors count (At (i + 1)) room) ∙ ap (λ n. take n (set cursors count (At (i + 1)))) (sym (add-one count)))
@@ -64,15 +64,15 @@ all_found es i h found inv = sym (inv ∙ ap (λ cs. found ++ cs) (at_drop_all (
 
 -- the entries before the first end
 module _ (es : List Step) (i : ℕ) (inv : length (up_to_end es) ≡ i + length (up_to_end (drop i es))) where
-  pub first-at : step_at es i ≡ End → i ≡ length (up_to_end es)
-  first-at e = omega (arith, inv, ap length (left_at es i ∙ ap (λ e. then_actions (action_of e) (up_to_end (drop (suc i) es))) e))
+  pub first_at : step_at es i ≡ End → i ≡ length (up_to_end es)
+  first_at e = omega (arith, inv, ap length (left_at es i ∙ ap (λ e. then_actions (action_of e) (up_to_end (drop (suc i) es))) e))
 
   pub not_yet : (step_at es i ≡ End → ⊥) → length (up_to_end es) ≡ i + 1 + length (up_to_end (drop (i + 1) es))
   not_yet f =
       let e : length (up_to_end (drop i es)) ≡ suc (length (up_to_end (drop (suc i) es))) = ap length (left_at es i) ∙ one_more (step_at es i) f (up_to_end (drop (suc i) es)) in
       omega (arith, inv, e, ap (λ n. length (up_to_end (drop n es))) (add-one i))
 
-  pub no-first : i ≡ length es → length es ≡ length (up_to_end es)
-  no-first q =
+  pub no_first : i ≡ length es → length es ≡ length (up_to_end es)
+  no_first q =
       let e : length (up_to_end (drop i es)) ≡ 0 = at_drop_all (λ l. length (up_to_end l)) es i (omega arith) in
       omega (arith, inv, e, q)

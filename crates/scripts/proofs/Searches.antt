@@ -12,14 +12,14 @@ module _ (l : List Script) (place u : ℕ) (inv : lowest (λ t. leb place t && u
   pub from_found : u < length l → place ≤ u → true ≡ unfinished l u → Some u ≡ from_on l place
   from_found h p e = lowest_found (λ t. leb place t && unfinished l t) u (length l) inv (and_from (leb place u) (unfinished l u) (le-leb place u p) (sym e)) h
 
-  pub from-done : false ≡ unfinished l u → lowest (λ t. leb place t && unfinished l t) (u + 1) ≡ None
-  from-done e = lowest_more (λ t. leb place t && unfinished l t) u inv (and_right (leb place u) (unfinished l u) (sym e))
+  pub from_done : false ≡ unfinished l u → lowest (λ t. leb place t && unfinished l t) (u + 1) ≡ None
+  from_done e = lowest_more (λ t. leb place t && unfinished l t) u inv (and_right (leb place u) (unfinished l u) (sym e))
 
-  pub from-before : u < place → lowest (λ t. leb place t && unfinished l t) (u + 1) ≡ None
-  from-before p = lowest_more (λ t. leb place t && unfinished l t) u inv (and_left (leb place u) (unfinished l u) (lt-leb place u p))
+  pub from_before : u < place → lowest (λ t. leb place t && unfinished l t) (u + 1) ≡ None
+  from_before p = lowest_more (λ t. leb place t && unfinished l t) u inv (and_left (leb place u) (unfinished l u) (lt-leb place u p))
 
-  pub from-none : u ≡ length l → None ≡ from_on l place
-  from-none q = sym inv ∙ ap (lowest (λ t. leb place t && unfinished l t)) q
+  pub from_none : u ≡ length l → None ≡ from_on l place
+  from_none q = sym inv ∙ ap (lowest (λ t. leb place t && unfinished l t)) q
 
 pub round_first : (l : List Script) (place t : ℕ) → Some t ≡ from_on l place → Some t ≡ in_round l place
 round_first l place t e = ap (λ o. or_else o (from_on l 0)) e

@@ -36,21 +36,21 @@ module _ (d : Scripted) (turns : List TransactionNumber) (used place taken : ℕ
     abbrev script : ℕ
     script = (get_or turns used x).0
 
-    pub whose-listed : Some script ≡ whose (numbers (drop used turns)) d.scripts place
-    whose-listed = sym (ap (λ r. whose (numbers r) d.scripts place) (drop-cons turns used x h))
+    pub whose_listed : Some script ≡ whose (numbers (drop used turns)) d.scripts place
+    whose_listed = sym (ap (λ r. whose (numbers r) d.scripts place) (drop-cons turns used x h))
 
-    pub listed-turn : turn_counted (record { scripted = d; list = numbers (drop (used + 1) turns); place = place; turns = taken }) script ≡ with_turn run_by script
-    listed-turn =
+    pub listed_turn : turn_counted (record { scripted = d; list = numbers (drop (used + 1) turns); place = place; turns = taken }) script ≡ with_turn run_by script
+    listed_turn =
         ap (λ n. turn_counted (record { scripted = d; list = numbers (drop n turns); place = place; turns = taken }) script) (add-one used)
         ∙ sym (ap (λ (r : List TransactionNumber). with_turn (record { scripted = d; list = numbers r; place = place; turns = taken }) script) (drop-cons turns used x h))
 
   -- a turn of a round
   module _ (h : length turns ≤ used) where
-    pub whose-round : (o : Option ℕ) → o ≡ in_round d.scripts place → o ≡ whose (numbers (drop used turns)) d.scripts place
-    whose-round o e = e ∙ sym (ap (λ r. whose (numbers r) d.scripts place) (drop_all used turns h))
+    pub whose_round : (o : Option ℕ) → o ≡ in_round d.scripts place → o ≡ whose (numbers (drop used turns)) d.scripts place
+    whose_round o e = e ∙ sym (ap (λ r. whose (numbers r) d.scripts place) (drop_all used turns h))
 
-    pub round-turn : (t : ℕ) → turn_counted (record { scripted = d; list = numbers (drop used turns); place = t + 1; turns = taken }) t ≡ with_turn run_by t
-    round-turn t =
+    pub round_turn : (t : ℕ) → turn_counted (record { scripted = d; list = numbers (drop used turns); place = t + 1; turns = taken }) t ≡ with_turn run_by t
+    round_turn t =
         let e = drop_all used turns h in
         ap (λ (r : List TransactionNumber). turn_counted (record { scripted = d; list = numbers r; place = t + 1; turns = taken }) t) e
         ∙ sym (ap (λ (r : List TransactionNumber). with_turn (record { scripted = d; list = numbers r; place = place; turns = taken }) t) e)

@@ -37,10 +37,10 @@ module _ (es : List Step) where
   moved_at : (i : ℕ) → moved (up_to_end (drop i es)) ≡ script_at es (cursor_moved (action_of (step_at es i)) i)
   moved_at i = ap moved (left_at es i) ∙ moved_then i (action_of (step_at es i))
 
-  pub answered-at : (i : ℕ) (a : Answer) → answered (up_to_end (drop i es)) a ≡ script_at es (cursor_answered (action_of (step_at es i)) i a)
-  answered-at i (done v) = moved_at i
-  answered-at i (waiting u) = refl
-  answered-at i (refused k) = moved_at i
+  pub answered_at : (i : ℕ) (a : Answer) → answered (up_to_end (drop i es)) a ≡ script_at es (cursor_answered (action_of (step_at es i)) i a)
+  answered_at i (done v) = moved_at i
+  answered_at i (waiting u) = refl
+  answered_at i (refused k) = moved_at i
 
   -- both changes, by a call c
   with_call : Cursors → ℕ → ℕ → Call → Scripted
@@ -56,7 +56,7 @@ module _ (es : List Step) where
       let c = call_by t (action_of (step_at es i)) in
       let a = answer d.session c in
       ap (λ (l : List Script). record { session = after d.session c a; scripts = l })
-      (map-set (script_at es) d.cursors t (cursor_answered (action_of (step_at es i)) i a) ∙ ap (set (map (script_at es) d.cursors) t) (sym (answered-at i a)))
+      (map-set (script_at es) d.cursors t (cursor_answered (action_of (step_at es i)) i a) ∙ ap (set (map (script_at es) d.cursors) t) (sym (answered_at i a)))
       ∙ ap (with_call d t i) (sym (call_at t i))
 
   pub turn_is : (d : Cursors) (t : ℕ) → scripted_by es (cursor_turn es d t) ≡ turn (scripted_by es d) t
@@ -72,11 +72,11 @@ drop_tail (x ∷ l) (suc i) e es q = drop_tail l i e es q
 
 -- the first cursors
 module _ (all : List Step) where
-  cursors-first : (es : List Step) (i : ℕ) → drop i all ≡ es → map (script_at all) (cursors_from i es) ≡ map going (scripts_of es)
-  cursors-first [] i q = refl
-  cursors-first (e ∷ es) i q =
+  cursors_first : (es : List Step) (i : ℕ) → drop i all ≡ es → map (script_at all) (cursors_from i es) ≡ map going (scripts_of es)
+  cursors_first [] i q = refl
+  cursors_first (e ∷ es) i q =
       let r : drop (i + 1) all ≡ es = rw add-one (drop_tail all i e es q) in
-      go (action_of e) i r (cursors-first es (i + 1) r)
+      go (action_of e) i r (cursors_first es (i + 1) r)
     where
       go : (o : Option Action) (i : ℕ) → drop (i + 1) all ≡ es → map (script_at all) (cursors_from (i + 1) es) ≡ map going (scripts_of es)
           → map (script_at all) (begins_at o (i + 1) (cursors_from (i + 1) es)) ≡ map going (begins o (up_to_end es) (scripts_of es))
@@ -93,30 +93,30 @@ all_counted [] = refl
 all_counted (e ∷ es) = counted_by (action_of e) (up_to_end es) (scripts_of es) ∙ ap suc (all_counted es)
 
 pub by_cursors : ByCursors
-by_cursors = (turn_is, λ es. cursors-first es es 0 refl, all_counted)
+by_cursors = (turn_is, λ es. cursors_first es es 0 refl, all_counted)
 
 -- for a program that keeps cursors: a turn of one that is done, and of one that is at a place
 module _ (es : List Step) (d : Cursors) (t : ℕ) where
-  script-is : (x : Cursor) → get_or d.cursors t Done ≡ x → script (scripted_by es d) t ≡ script_at es x
-  script-is x q = get_or-map (script_at es) d.cursors t Done ∙ ap (script_at es) q
+  script_is : (x : Cursor) → get_or d.cursors t Done ≡ x → script (scripted_by es d) t ≡ script_at es x
+  script_is x q = get_or-map (script_at es) d.cursors t Done ∙ ap (script_at es) q
 
-  pub no-turn : get_or d.cursors t Done ≡ Done → (None ≡ turn_answer (scripted_by es d) t) × (scripted_by es d ≡ turn (scripted_by es d) t)
-  no-turn q =
-      let e = script-is Done q in
+  pub no_turn : get_or d.cursors t Done ≡ Done → (None ≡ turn_answer (scripted_by es d) t) × (scripted_by es d ≡ turn (scripted_by es d) t)
+  no_turn q =
+      let e = script_is Done q in
       (sym (ap (answer_by (scripted_by es d) t) e), sym (ap (turn_by (scripted_by es d) t) e))
 
   -- the cursors after a turn that was answered so
-  abbrev pub with-answer : ℕ → Answer → Cursors
-  with-answer i a = record {
+  abbrev pub with_answer : ℕ → Answer → Cursors
+  with_answer i a = record {
     session = after d.session (call_by t (action_of (step_at es i))) a;
     cursors = set d.cursors t (cursor_answered (action_of (step_at es i)) i a);
   }
 
-  pub one-turn : (i : ℕ) (a : Answer) → get_or d.cursors t Done ≡ At i → a ≡ answer d.session (call_by t (action_of (step_at es i)))
-      → (Some a ≡ turn_answer (scripted_by es d) t) × (scripted_by es (with-answer i a) ≡ turn (scripted_by es d) t)
-  one-turn i a q z = (
-    ap Some (z ∙ ap (answer d.session) (sym (call_at es t i))) ∙ sym (ap (answer_by (scripted_by es d) t) (script-is (At i) q)),
-    ap (λ a. scripted_by es (with-answer i a)) z ∙ ap (λ x. scripted_by es (cursor_turn_by es d t x)) (sym q) ∙ turn_is es d t,
+  pub one_turn : (i : ℕ) (a : Answer) → get_or d.cursors t Done ≡ At i → a ≡ answer d.session (call_by t (action_of (step_at es i)))
+      → (Some a ≡ turn_answer (scripted_by es d) t) × (scripted_by es (with_answer i a) ≡ turn (scripted_by es d) t)
+  one_turn i a q z = (
+    ap Some (z ∙ ap (answer d.session) (sym (call_at es t i))) ∙ sym (ap (answer_by (scripted_by es d) t) (script_is (At i) q)),
+    ap (λ a. scripted_by es (with_answer i a)) z ∙ ap (λ x. scripted_by es (cursor_turn_by es d t x)) (sym q) ∙ turn_is es d t,
   )
 
 pub take_put : (k : ℕ) (l : List Cursor) (t : ℕ) (x : Cursor) → t < k → take k (set l t x) ≡ set (take k l) t x
@@ -136,21 +136,21 @@ module _ (es : List Step) (s : State) (l : List Cursor) (k t : ℕ) where
   kept = record { session = s; cursors = take k l }
 
   -- beyond the scripts
-  pub array-past : k ≤ t → (None ≡ turn_answer (scripted_by es kept) t) × (scripted_by es kept ≡ turn (scripted_by es kept) t)
-  array-past h = no-turn es kept t (get_or_past (take k l) t Done (omega (arith, length-take k l)))
+  pub array_past : k ≤ t → (None ≡ turn_answer (scripted_by es kept) t) × (scripted_by es kept ≡ turn (scripted_by es kept) t)
+  array_past h = no_turn es kept t (get_or_past (take k l) t Done (omega (arith, length-take k l)))
 
   module _ (h : t < k) (inside : t < length l) where
     reads : (x : Cursor) → get_or l t (At 0) ≡ x → get_or (take k l) t Done ≡ x
     reads x q = get_or-take k l t Done h ∙ default_free l t Done (At 0) inside ∙ q
 
-    pub array-done : get_or l t (At 0) ≡ Done → (None ≡ turn_answer (scripted_by es kept) t) × (scripted_by es kept ≡ turn (scripted_by es kept) t)
-    array-done q = no-turn es kept t (reads Done q)
+    pub array_done : get_or l t (At 0) ≡ Done → (None ≡ turn_answer (scripted_by es kept) t) × (scripted_by es kept ≡ turn (scripted_by es kept) t)
+    array_done q = no_turn es kept t (reads Done q)
 
-    pub array-turn : (s' : State) (i : ℕ) (e : Step) (a : Answer) (x : Cursor) → get_or l t (At 0) ≡ At i → e ≡ step_at es i
+    pub array_turn : (s' : State) (i : ℕ) (e : Step) (a : Answer) (x : Cursor) → get_or l t (At 0) ≡ At i → e ≡ step_at es i
         → a ≡ answer s (call_by t (action_of e)) → s' ≡ after s (call_by t (action_of e)) a → x ≡ cursor_answered (action_of e) i a
         → (Some a ≡ turn_answer (scripted_by es kept) t) × (scripted_by es (record { session = s'; cursors = take k (set l t x) }) ≡ turn (scripted_by es kept) t)
-    array-turn s' i e a x q w z y v =
-        let (b, c) = one-turn es kept t i a (reads (At i) q) (z ∙ ap (λ e. answer s (call_by t (action_of e))) w) in (
+    array_turn s' i e a x q w z y v =
+        let (b, c) = one_turn es kept t i a (reads (At i) q) (z ∙ ap (λ e. answer s (call_by t (action_of e))) w) in (
           b,
           ap₂ (λ (s : State) (l : List Cursor). scripted_by es (record { session = s; cursors = l }))
               (y ∙ ap (λ e. after s (call_by t (action_of e)) a) w)

@@ -27,11 +27,11 @@ leads_nothing s h = ap (at s) (sym (append-nil h))
 
 leads_on : (s s' s'' : State) (es fs : List Event) → Leads s es s' → Leads s' fs s'' → Leads s (es ++ fs) s''
 leads_on s s' s'' es fs a b h =
-    run-append (at s h) es fs ∙ ap (λ r. run r (calls_of fs)) (a h) ∙ b (h ++ es) ∙ ap (at s'') (append_assoc h es fs)
+    run_append (at s h) es fs ∙ ap (λ r. run r (calls_of fs)) (a h) ∙ b (h ++ es) ∙ ap (at s'') (append_assoc h es fs)
   where
-    run-append : (r : Run) (es fs : List Event) → run r (calls_of (es ++ fs)) ≡ run (run r (calls_of es)) (calls_of fs)
-    run-append r [] fs = refl
-    run-append r (e ∷ es) fs = run-append (step r e.call) es fs
+    run_append : (r : Run) (es fs : List Event) → run r (calls_of (es ++ fs)) ≡ run (run r (calls_of es)) (calls_of fs)
+    run_append r [] fs = refl
+    run_append r (e ∷ es) fs = run_append (step r e.call) es fs
 
 turn_leads : (d : Scripted) (t : ℕ) (x : Script) → Leads d.session (turn_event d t x) (turn_by d t x).session
 turn_leads d t finished = leads_nothing d.session

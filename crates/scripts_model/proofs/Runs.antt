@@ -60,8 +60,8 @@ module _ (rule : Rule) (store : Store) (k : ℕ) where
     abbrev s : State
     s = d.session
 
-    is-ended : (u : ℕ) → u < k → script d u ≡ finished → phase s u ≡ Ended
-    is-ended u h q = subst (λ (y : Script). Fits y (phase s u)) q (g.fits u h)
+    is_ended : (u : ℕ) → u < k → script d u ≡ finished → phase s u ≡ Ended
+    is_ended u h q = subst (λ (y : Script). Fits y (phase s u)) q (g.fits u h)
 
     -- not all that are unfinished are stuck
     standstill : (t : ℕ) → t < k → (script d t ≡ finished → ⊥) → ((u : ℕ) → u < k → (script d u ≡ finished) ⊎ Stuck s u) → ⊥
@@ -72,7 +72,7 @@ module _ (rule : Rule) (store : Store) (k : ℕ) where
           let (u, m, x, a) = p.goes_on still t n w in
           let l : u < k = omega (arith, ((holding rule store k d g).asks u m x).0, g.begun) in
           elim (all u l) [
-            | inl q ↦ let z : ◌≡◌ {A = ℕ} 0 1 = cc (is-ended u l q, x) in omega arith
+            | inl q ↦ let z : ◌≡◌ {A = ℕ} 0 1 = cc (is_ended u l q, x) in omega arith
             | inr (m', v', x', e') ↦
                 let y : answer s (lock u m) ≡ waiting v'.0 =
                 p.again u m x ∙ ap (λ n. grant_or_wait (holder s n)) (same_node (phase s u) m m' x x') ∙ ap grant_or_wait e' in
@@ -83,15 +83,15 @@ module _ (rule : Rule) (store : Store) (k : ℕ) where
       where
         still : Standstill s
         still u h = elim (all u (omega (arith, h, g.begun))) [
-          | inl q ↦ inl (is-ended u (omega (arith, h, g.begun)) q)
+          | inl q ↦ inl (is_ended u (omega (arith, h, g.begun)) q)
           | inr (n, v, w, e) ↦ inr (n, w)
         ]
 
     -- after a turn of t that leaves it stuck, another is as it was
-    waited-on : (t : ℕ) (d' : Scripted) → (d'.scripts ≡ d.scripts) → (d'.session.holders ≡ s.holders)
+    waited_on : (t : ℕ) (d' : Scripted) → (d'.scripts ≡ d.scripts) → (d'.session.holders ≡ s.holders)
         → ((u : ℕ) → (u ≡ t → ⊥) → phase d'.session u ≡ phase s u) → Stuck d'.session t
         → (u : ℕ) → ((u ≡ t → ⊥) → (script d u ≡ finished) ⊎ Stuck s u) → (script d' u ≡ finished) ⊎ Stuck d'.session u
-    waited-on t d' e hs others st u w = elim (cases_eq u t) [
+    waited_on t d' e hs others st u w = elim (cases_eq u t) [
       | inl q ↦ inr (subst⁻¹ (Stuck d'.session) q st)
       | inr ne ↦ elim (w ne) [
         | inl q ↦ inl (ap (λ l. get_or l u finished) e ∙ q)
@@ -112,12 +112,12 @@ module _ (rule : Rule) (store : Store) (k : ℕ) where
           let l : 1 ≤ left d.scripts = omega (arith, left_some d.scripts t, size_some (script d t) f) in
           omega (arith, mul-le-mul_right k l, one-mul k)
 
-      waited-more : (d' : Scripted) → (d'.scripts ≡ d.scripts) → (d'.session.holders ≡ s.holders)
+      waited_more : (d' : Scripted) → (d'.scripts ≡ d.scripts) → (d'.session.holders ≡ s.holders)
           → ((u : ℕ) → (u ≡ t → ⊥) → phase d'.session u ≡ phase s u) → Stuck d'.session t → Waited d t → Waited d' (t + 1)
-      waited-more d' e hs others st w u m = waited-on t d' e hs others st u (λ ne. w u (omega arith))
+      waited_more d' e hs others st w u m = waited_on t d' e hs others st u (λ ne. w u (omega arith))
 
-      onward-by : (d' : Scripted) → Turned rule store k d d' t → Suffices d t b → Onward d'
-      onward-by d' x enough = record {
+      onward_by : (d' : Scripted) → Turned rule store k d d' t → Suffices d t b → Onward d'
+      onward_by d' x enough = record {
         rest = b - 1;
         one = elim enough [ inl (w, l) ↦ omega (arith, some, l, h) | inr l ↦ omega (arith, some, l, h) ];
         good = x.good;
@@ -128,14 +128,14 @@ module _ (rule : Rule) (store : Store) (k : ℕ) where
           | inr (q, hs, others, st) ↦
               let e : left d'.scripts * k ≡ left d.scripts * k = ap (λ l. left l * k) q in
               elim enough [
-                | inl (w, l) ↦ inl (waited-more d' q hs others st w, omega (arith, some, e, l, h))
+                | inl (w, l) ↦ inl (waited_more d' q hs others st w, omega (arith, some, e, l, h))
                 | inr l ↦ inr (omega (arith, some, e, l, h))
               ]
         ];
       }
 
       onward : Suffices d t b → Onward (turn d t)
-      onward enough = onward-by (turn d t) (turned rule store k d g t h (script d t) refl f) enough
+      onward enough = onward_by (turn d t) (turned rule store k d g t h (script d t) refl f) enough
 
     -- where all are finished the run is at its end
     over : ((u : ℕ) → u < length d.scripts → unfinished d.scripts u ≡ false) → (place turns b : ℕ) → Finished (turns + b) (at_round d place turns)
@@ -143,7 +143,7 @@ module _ (rule : Rule) (store : Store) (k : ℕ) where
       used = refl;
       all = all_are_finished d.scripts all;
       few = omega arith;
-      ended = λ t h. is-ended t (omega (arith, g.begun)) (is_done (script d t) (all t (omega (arith, g.begun, g.long))));
+      ended = λ t h. is_ended t (omega (arith, g.begun)) (is_done (script d t) (all t (omega (arith, g.begun, g.long))));
     }
 
     -- all are finished, or it is the turn of some t, up to which nothing is lost
@@ -190,10 +190,10 @@ module _ (rule : Rule) (store : Store) (k : ℕ) where
         inl (λ u l. inl (is_done (script d u) (all u (omega (arith, g.long)))), omega (arith, e))
 
     -- a turn of whomever: nothing is lost
-    any-turn : (t : ℕ) (x : Script) → script d t ≡ x
+    any_turn : (t : ℕ) (x : Script) → script d t ≡ x
         → G (turn_by d t x) × (left (turn_by d t x).scripts ≤ left d.scripts) × ((place b : ℕ) → Suffices d place b → Suffices (turn_by d t x) place b)
-    any-turn t finished q = (g, omega arith, λ place b enough. enough)
-    any-turn t (going xs) q = elim (cases_lt t k) [
+    any_turn t finished q = (g, omega arith, λ place b enough. enough)
+    any_turn t (going xs) q = elim (cases_lt t k) [
       | inl h ↦
           let x = turned rule store k d g t h (going xs) q (λ e. false≢true (ap is_finished e)) in
           elim x.outcome [
@@ -206,7 +206,7 @@ module _ (rule : Rule) (store : Store) (k : ℕ) where
                   x.good,
                   omega (arith, ap left e),
                   λ place b enough. elim enough [
-                    | inl (w, l) ↦ inl (λ u i. waited-on t (turn_by d t (going xs)) e hs others st u (λ ne. w u i), omega (arith, m, l))
+                    | inl (w, l) ↦ inl (λ u i. waited_on t (turn_by d t (going xs)) e hs others st u (λ ne. w u i), omega (arith, m, l))
                     | inr l ↦ inr (omega (arith, m, l))
                   ],
                 )
@@ -231,7 +231,7 @@ module _ (rule : Rule) (store : Store) (k : ℕ) where
         (finishes ms (turn d t) (t + 1) (turns + 1) o.rest o.good (omega arith) (omega (arith, o.one)) o.suffices))
   ]
   finishes (alone t ∷ ms) d place turns b g h m enough =
-      let (good, less, still) = any-turn d g t (script d t) refl in
+      let (good, less, still) = any_turn d g t (script d t) refl in
       finishes ms (turn d t) place turns b good h m (still place b enough)
 
   listed : (list : List ℕ) (ms : List Move) (d : Scripted) (turns b : ℕ) → G d → left d.scripts * k ≤ b → length list + b ≤ scheduled_in ms
@@ -240,11 +240,11 @@ module _ (rule : Rule) (store : Store) (k : ℕ) where
       wider _ (turns + b) (turns + (0 + b)) (omega arith) (finishes ms d 0 turns b g (omega arith) (omega arith) (inl (λ t x. absurd (omega arith), omega arith)))
   listed (t ∷ list) [] d turns b g h m = absurd (omega arith)
   listed (t ∷ list) (next ∷ ms) d turns b g h m =
-      let (good, less, still) = any-turn d g t (script d t) refl in
+      let (good, less, still) = any_turn d g t (script d t) refl in
       let fewer : left (turn d t).scripts * k ≤ left d.scripts * k = mul-le-mul_right k less in
       wider _ (turns + 1 + (length list + b)) _ (omega arith) (listed list ms (turn d t) (turns + 1) b good (omega arith) (omega arith))
   listed (t ∷ list) (alone u ∷ ms) d turns b g h m =
-      let (good, less, still) = any-turn d g u (script d u) refl in
+      let (good, less, still) = any_turn d g u (script d u) refl in
       let fewer : left (turn d u).scripts * k ≤ left d.scripts * k = mul-le-mul_right k less in
       listed (t ∷ list) ms (turn d u) turns b good (omega arith) m
 

@@ -19,18 +19,18 @@ module _ (allowance : ℕ) (scripts : List (List Action)) (list : List ℕ) (h :
   abbrev Refused : Type 0
   Refused = start_refusal allowance scripts list ≡ Some LimitExceeded
 
-  pub many-steps : 1024 < steps_of scripts → Refused
-  many-steps b = rw (le-ltb 40000 allowance h, le-ltb 32 (length scripts) a, lt-ltb 1024 (steps_of scripts) b)
+  pub many_steps : 1024 < steps_of scripts → Refused
+  many_steps b = rw (le-ltb 40000 allowance h, le-ltb 32 (length scripts) a, lt-ltb 1024 (steps_of scripts) b)
 
   module _ (b : steps_of scripts ≤ 1024) where
-    pub many-turns : 4096 < length list → Refused
-    many-turns d = rw (le-ltb 40000 allowance h, le-ltb 32 (length scripts) a, le-ltb 1024 (steps_of scripts) b, lt-ltb 4096 (length list) d)
+    pub many_turns : 4096 < length list → Refused
+    many_turns d = rw (le-ltb 40000 allowance h, le-ltb 32 (length scripts) a, le-ltb 1024 (steps_of scripts) b, lt-ltb 4096 (length list) d)
 
     pub beyond : length list ≤ 4096 → all_below (length scripts) list ≡ false → Refused
     beyond d e = rw (le-ltb 40000 allowance h, le-ltb 32 (length scripts) a, le-ltb 1024 (steps_of scripts) b, le-ltb 4096 (length list) d, e)
 
-    pub within-limits : length list ≤ 4096 → all_below (length scripts) list ≡ true → start_refusal allowance scripts list ≡ None
-    within-limits d e = rw (le-ltb 40000 allowance h, le-ltb 32 (length scripts) a, le-ltb 1024 (steps_of scripts) b, le-ltb 4096 (length list) d, e)
+    pub within_limits : length list ≤ 4096 → all_below (length scripts) list ≡ true → start_refusal allowance scripts list ≡ None
+    within_limits d e = rw (le-ltb 40000 allowance h, le-ltb 32 (length scripts) a, le-ltb 1024 (steps_of scripts) b, le-ltb 4096 (length list) d, e)
 
 pub started : (rule : Rule) (store : Store) (scripts : List (List Action)) (list : List ℕ) (allowance : ℕ) (r : RunState)
     → length scripts ≤ 32 → start_refusal allowance scripts list ≡ None → r ≡ first_run rule store scripts list → Started rule store scripts list allowance r

@@ -75,13 +75,13 @@ module _ (s : State) (p : Progress s) (long : length s.records ≡ 32) (few : s.
   passing (does n d) xs e = record { begun = refl; others = λ u f. refl; fits = inl e; outcome = inl refl }
 
   -- every refusal is alike
-  by-refusal : (x : Action) (xs : List Action) → phase s t ≡ Open → (o : Option Refusal) → After (x ∷ xs) (unless_refused o (unrefused s (next_call t (x ∷ xs))))
-  by-refusal x xs e None = passing x xs e
-  by-refusal x xs e (Some k) = refuses x xs e k
+  by_refusal : (x : Action) (xs : List Action) → phase s t ≡ Open → (o : Option Refusal) → After (x ∷ xs) (unless_refused o (unrefused s (next_call t (x ∷ xs))))
+  by_refusal x xs e None = passing x xs e
+  by_refusal x xs e (Some k) = refuses x xs e k
 
   opens : (xs : List Action) → phase s t ≡ Open → After xs (answer s (next_call t xs))
   opens [] e = ending e
-  opens (x ∷ xs) e = by-refusal x xs e (refusal s (next_call t (x ∷ xs)))
+  opens (x ∷ xs) e = by_refusal x xs e (refusal s (next_call t (x ∷ xs)))
 
   pub effect : (xs : List Action) → Fits (going xs) (phase s t) → After xs (answer s (next_call t xs))
   effect xs (inl e) = opens xs e
@@ -115,9 +115,9 @@ module _ (rule : Rule) (store : Store) (k : ℕ) where
         ⊎ ((d'.scripts ≡ d.scripts) × (d'.session.holders ≡ d.session.holders)
         × ((u : ℕ) → (u ≡ t → ⊥) → phase d'.session u ≡ phase d.session u) × Stuck d'.session t)
 
-  moved-size : (xs : List Action) → size (going xs) ≡ size (moved xs) + 1
-  moved-size [] = refl
-  moved-size (x ∷ xs) = omega arith
+  moved_size : (xs : List Action) → size (going xs) ≡ size (moved xs) + 1
+  moved_size [] = refl
+  moved_size (x ∷ xs) = omega arith
 
   module _ (d : Scripted) (g : Good rule store k d) (t : ℕ) (h : t < k) where
     abbrev s : State
@@ -146,7 +146,7 @@ module _ (rule : Rule) (store : Store) (k : ℕ) where
         ];
       };
       outcome = elim e.outcome [
-        | inl v ↦ inl (omega (arith, left_set l t x inside, ap size q, ap size v, moved-size xs))
+        | inl v ↦ inl (omega (arith, left_set l t x inside, ap size q, ap size v, moved_size xs))
         | inr (v, hs, st) ↦ inr (ap (set l t) (v ∙ sym q) ∙ set-get_or l t finished, hs, e.others, st)
       ];
     }

@@ -142,21 +142,21 @@ module _ (p : ℕ → Phase) (n t i : ℕ) (L out : List ℕ) (inv : L ≡ take 
   next h = let e : n - t ≡ suc (n - (t + 1)) = omega arith in ap (listing p t) e ∙ ap (λ j. pair (p t) t ++ listing p j (n - (t + 1))) (sym (add-one t))
 
   -- t waits for m
-  pub listing-more : (m : ℕ) → t < n → i + 1 < length out → p t ≡ Waiting (node m)
+  pub listing_more : (m : ℕ) → t < n → i + 1 < length out → p t ≡ Waiting (node m)
       → L ≡ take (i + 2) (set (set out i t) (i + 1) m) ++ listing p (t + 1) (n - (t + 1))
-  listing-more m h l e =
+  listing_more m h l e =
       inv
       ∙ ap (λ x. take i out ++ x) (next h ∙ ap (λ x. pair x t ++ listing p (t + 1) (n - (t + 1))) e)
       ∙ sym (append_assoc (take i out) (t ∷ (m ∷ [])) (listing p (t + 1) (n - (t + 1))))
       ∙ ap (λ x. x ++ listing p (t + 1) (n - (t + 1))) (sym (two_more out i t m l))
 
   -- t does not wait
-  pub listing-same : t < n → pair (p t) t ≡ [] → L ≡ take i out ++ listing p (t + 1) (n - (t + 1))
-  listing-same h e = inv ∙ ap (λ x. take i out ++ x) (next h ∙ ap (λ x. x ++ listing p (t + 1) (n - (t + 1))) e)
+  pub listing_same : t < n → pair (p t) t ≡ [] → L ≡ take i out ++ listing p (t + 1) (n - (t + 1))
+  listing_same h e = inv ∙ ap (λ x. take i out ++ x) (next h ∙ ap (λ x. x ++ listing p (t + 1) (n - (t + 1))) e)
 
   -- all are looked at
-  pub listing-ends : n ≤ t → take i out ≡ L
-  listing-ends h = let e : n - t ≡ 0 = omega arith in sym (inv ∙ ap (λ j. take i out ++ listing p t j) e ∙ append-nil (take i out))
+  pub listing_ends : n ≤ t → take i out ≡ L
+  listing_ends h = let e : n - t ≡ 0 = omega arith in sym (inv ∙ ap (λ j. take i out ++ listing p t j) e ∙ append-nil (take i out))
 
 -- a transaction that waits is one more
 pub waiters_more : (p : ℕ → Phase) (t m : ℕ) → p t ≡ Waiting (node m) → waiters p (t + 1) ≡ waiters p t + 1

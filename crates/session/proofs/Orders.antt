@@ -13,21 +13,21 @@ module _ (f : ℕ → ℕ) (n : ℕ) (L out : List ℕ) (p k : ℕ) (inv : L ≡
   next h = let e : n - k ≡ suc (n - (k + 1)) = omega arith in rw e refl
 
   -- one more is placed
-  pub order-more : (t : ℕ) → k < n → k < length out → Some t ≡ lowest (ready f p) n
+  pub order_more : (t : ℕ) → k < n → k < length out → Some t ≡ lowest (ready f p) n
       → L ≡ take (k + 1) (set out k t) ++ placing f n (with_member 32 p t) (n - (k + 1))
-  order-more t h l e =
+  order_more t h l e =
       inv
       ∙ ap (λ x. take k out ++ x) (next h ∙ ap (λ o. then o (λ t. placing f n (with_member 32 p t) (n - (k + 1)))) (sym e))
       ∙ sym (append_assoc (take k out) (t ∷ []) (placing f n (with_member 32 p t) (n - (k + 1))))
       ∙ ap (λ x. x ++ placing f n (with_member 32 p t) (n - (k + 1))) (sym (take_more_set out k t l))
 
   -- none is ready
-  pub order-stops : k < n → None ≡ lowest (ready f p) n → take k out ≡ L
-  order-stops h e = sym (inv ∙ ap (λ x. take k out ++ x) (next h ∙ ap (λ o. then o (λ t. placing f n (with_member 32 p t) (n - (k + 1)))) (sym e)) ∙ append-nil (take k out))
+  pub order_stops : k < n → None ≡ lowest (ready f p) n → take k out ≡ L
+  order_stops h e = sym (inv ∙ ap (λ x. take k out ++ x) (next h ∙ ap (λ o. then o (λ t. placing f n (with_member 32 p t) (n - (k + 1)))) (sym e)) ∙ append-nil (take k out))
 
   -- all are placed
-  pub order-ends : n ≤ k → take k out ≡ L
-  order-ends h = let e : n - k ≡ 0 = omega arith in sym (inv ∙ ap (λ j. take k out ++ placing f n p j) e ∙ append-nil (take k out))
+  pub order_ends : n ≤ k → take k out ≡ L
+  order_ends h = let e : n - k ≡ 0 = omega arith in sym (inv ∙ ap (λ j. take k out ++ placing f n p j) e ∙ append-nil (take k out))
 
 -- a buffer that is long enough
 pub long_enough : (l n : ℕ) → n ≤ l → short l n ≡ None
@@ -39,12 +39,12 @@ module _ (L out old : List ℕ) (k : ℕ) (front : take k out ≡ L) (long : k �
   count = sym (length-take-le k out long) ∙ ap length front
 
   -- what is answered
-  pub front-answers : (o : Option Refusal) → o ≡ None → ◌≡◌ {A = Result ℕ Refusal} (Ok k) (answer_unless o (length L))
-  front-answers o e = subst (λ (x : Option Refusal). ◌≡◌ {A = Result ℕ Refusal} (Ok k) (answer_unless x (length L))) (sym e) (ap (λ x. Ok x) count)
+  pub front_answers : (o : Option Refusal) → o ≡ None → ◌≡◌ {A = Result ℕ Refusal} (Ok k) (answer_unless o (length L))
+  front_answers o e = subst (λ (x : Option Refusal). ◌≡◌ {A = Result ℕ Refusal} (Ok k) (answer_unless x (length L))) (sym e) (ap (λ x. Ok x) count)
 
   -- what is left
-  pub front-leaves : (o : Option Refusal) → o ≡ None → out ≡ leave_unless o old (filled L old)
-  front-leaves o e = subst (λ (x : Option Refusal). out ≡ leave_unless x old (filled L old)) (sym e)
+  pub front_leaves : (o : Option Refusal) → o ≡ None → out ≡ leave_unless o old (filled L old)
+  front_leaves o e = subst (λ (x : Option Refusal). out ≡ leave_unless x old (filled L old)) (sym e)
       (sym (take-append-drop k out) ∙ ap (λ x. x ++ drop k out) front ∙ ap (λ x. L ++ x) rest ∙ ap (λ i. L ++ drop i old) count)
 
 -- a write to the front leaves the rest

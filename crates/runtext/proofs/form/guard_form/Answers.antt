@@ -6,7 +6,7 @@ use Rattle.runtext.specs.Finding.{first_word}
 use Rattle.runtext.specs.Left.{pieces_from, piece_at}
 use Rattle.runtext.specs.Listing.{front}
 use Rattle.runtext.specs.Meaning.{means}
-use Rattle.runtext.proofs.Formings.{numbers_whole, numbers_cut, guard_none, guard_is, two-lists-are, two_lists_none}
+use Rattle.runtext.proofs.Formings.{numbers_whole, numbers_cut, guard_none, guard_is, two_lists_are, two_lists_none}
 use Rattle.runtext.proofs.Listings.{own_list, listed_is, no_slash}
 use Rattle.runtext.proofs.form.guard_form.Goals as goal
 
@@ -49,7 +49,7 @@ returns-then-not-is-end c =
     let cut = sym (ap is_empty b.rest) ∙ sym c.is-end.ensures ∙ c.if-not-is-end.true in
     ap guard_line cuts.cut
     ∙ guard_is (piece_at line c.args.from) (pieces_from line node.next) node.value None is
-    (two-lists-are (piece_at line c.list-at-a.result.next) (pieces_from line next) word (pieces_from line node.next) (sym a.rest ∙ found.cuts.cut)
+    (two_lists_are (piece_at line c.list-at-a.result.next) (pieces_from line next) word (pieces_from line node.next) (sym a.rest ∙ found.cuts.cut)
     ∙ ap (λ o. and_then {B = List ℕ × List ℕ} o (λ b. Some (front (pieces_from line node.next), b))) (numbers_cut (pieces_from line next) cut))
 
 pub returns : goal.returns
@@ -65,7 +65,7 @@ returns c =
     let whole = sym (ap is_empty b.rest) ∙ sym c.is-end.ensures ∙ c.if-not-is-end.false in (
       ap guard_line cuts.cut
           ∙ guard_is (piece_at line c.args.from) (pieces_from line node.next) node.value _ is
-          (two-lists-are (piece_at line c.list-at-a.result.next) (pieces_from line next) word (pieces_from line node.next) (sym a.rest ∙ found.cuts.cut)
+          (two_lists_are (piece_at line c.list-at-a.result.next) (pieces_from line next) word (pieces_from line node.next) (sym a.rest ∙ found.cuts.cut)
           ∙ ap (λ o. and_then {B = List ℕ × List ℕ} o (λ b. Some (front (pieces_from line node.next), b))) (numbers_whole (pieces_from line next) whole))
           ∙ ap (λ x. Some (guard node.value x (front (pieces_from line next)))) (listed_is line node.next c.list-at-a.result a)
           ∙ ap (λ x. Some (guard node.value (listed line c.list-at-a.result) x)) (listed_is line next c.list-at-b.result b),

@@ -1,11 +1,11 @@
 use Rattle.std.proofs.Common.{ℕ, ◌^◌, ◌<◌, ◌≤◌, sym, ◌∙◌, lt_of_lt_of_le, arith, pow-add}
 use native.Mathlib.Nat.{pow-le-pow_right}
-use Rattle.runtext.proofs.Numbers.{digits_more, digits-bad, digits-done}
+use Rattle.runtext.proofs.Numbers.{digits_more, digits_bad, digits_done}
 use Rattle.runtext.proofs.number.digits_value.Goals as goal
 
 pub returns-then-not-is-digit : goal.returns-then-not-is-digit
 returns-then-not-is-digit c = record {
-  is = sym (digits-bad c.loop-b.n c.args.digits.now c.loop-b.b-index c.loop-b-test.true (sym c.is-digit.ensures.is ∙ c.if-not-is-digit.true)) ∙ c.loop-b.invariant.0;
+  is = sym (digits_bad c.loop-b.n c.args.digits.now c.loop-b.b-index c.loop-b-test.true (sym c.is-digit.ensures.is ∙ c.if-not-is-digit.true)) ∙ c.loop-b.invariant.0;
   small = tt;
 }
 
@@ -22,6 +22,6 @@ short i n h l = lt_of_lt_of_le l (pow-le-pow_right (omega arith) h)
 
 pub returns : goal.returns
 returns c = record {
-  is = sym (digits-done c.loop-b.n c.args.digits.now c.loop-b.b-index c.loop-b-test.false) ∙ c.loop-b.invariant.0;
+  is = sym (digits_done c.loop-b.n c.args.digits.now c.loop-b.b-index c.loop-b-test.false) ∙ c.loop-b.invariant.0;
   small = short c.loop-b.b-index _ (omega arith) c.loop-b.invariant.1;
 }

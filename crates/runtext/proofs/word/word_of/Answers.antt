@@ -1,5 +1,5 @@
 use Rattle.std.proofs.Common.{sym, refl}
-use Rattle.runtext.proofs.Wording.{is_one, is_none, word_number, word-long, word-letter, word-slash, word_none}
+use Rattle.runtext.proofs.Wording.{is_one, is_none, word_number, word_long, word_letter, word_slash, word_none}
 use Rattle.runtext.proofs.word.word_of.Goals as goal
 
 pub returns-in-Some : goal.returns-in-Some
@@ -11,17 +11,17 @@ returns-in-Some c =
 pub returns-then-part-ne1 : goal.returns-then-part-ne1
 returns-then-part-ne1 c =
     let bs = c.args.part.bytes.now in
-    word-long bs (is_none bs (sym c.in-default.ensures.is)) c.if-part-ne1.true
+    word_long bs (is_none bs (sym c.in-default.ensures.is)) c.if-part-ne1.true
 
 pub returns-then-is-capital : goal.returns-then-is-capital
 returns-then-is-capital c =
     let bs = c.args.part.bytes.now in
-    (word-letter bs (is_none bs (sym c.in-default.ensures.is)) c.if-part-ne1.false (sym c.if-is-capital.ensures), c.if-part-ne1.false, refl)
+    (word_letter bs (is_none bs (sym c.in-default.ensures.is)) c.if-part-ne1.false (sym c.if-is-capital.ensures), c.if-part-ne1.false, refl)
 
 pub returns-then-b-eq47 : goal.returns-then-b-eq47
 returns-then-b-eq47 c =
     let bs = c.args.part.bytes.now in
-    (word-slash bs (is_none bs (sym c.in-default.ensures.is)) c.if-part-ne1.false (sym c.if-is-capital.ensures) c.if-b-eq47.true, tt, refl)
+    (word_slash bs (is_none bs (sym c.in-default.ensures.is)) c.if-part-ne1.false (sym c.if-is-capital.ensures) c.if-b-eq47.true, tt, refl)
 
 pub returns : goal.returns
 returns c =

@@ -1,5 +1,5 @@
 use Rattle.std.proofs.Common.{◌<◌, take, ◌∙◌, arith, length-set, length-take-le}
-use Rattle.scripts.proofs.Finding.{no_end, one-too-many, one_found, all_found}
+use Rattle.scripts.proofs.Finding.{no_end, one_too_many, one_found, all_found}
 use Rattle.scripts.proofs.find.find.Goals as goal
 
 pub loop-i-preserved-in-default : goal.loop-i-preserved-in-default
@@ -15,7 +15,7 @@ returns-then-count-eq-MOST-SCRIPTS c =
       arith,
       full,
       c.if-count-eq-MOST-SCRIPTS.true,
-      one-too-many c.args.steps.now l.i c.loop-i-test.true (take l.count l.cursors) l.invariant.0 c.in-End.is,
+      one_too_many c.args.steps.now l.i c.loop-i-test.true (take l.count l.cursors) l.invariant.0 c.in-End.is,
     )
 
 pub loop-i-preserved : goal.loop-i-preserved

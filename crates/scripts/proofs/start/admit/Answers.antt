@@ -3,7 +3,7 @@ use lib.ListN.{length-map}
 use Rattle.scripts_model.specs.Buffer.{scripts_of}
 use Rattle.scripts_model.specs.Limits.{numbers, all_below}
 use Rattle.scripts_model.proofs.Cursors.{all_counted}
-use Rattle.scripts_model.proofs.Starting.{many-steps, many-turns, beyond, within-limits}
+use Rattle.scripts_model.proofs.Starting.{many_steps, many_turns, beyond, within_limits}
 use Rattle.scripts.proofs.Admitting.{count_is}
 use Rattle.scripts.proofs.start.admit.Goals as goal
 
@@ -14,7 +14,7 @@ pub returns-then-steps-before-first-gt-MOST-STEPS : goal.returns-then-steps-befo
 returns-then-steps-before-first-gt-MOST-STEPS c =
     let es = c.args.steps.now in
     let n = count_is es c.in-Some.found c.in-Some.ensures in
-    many-steps c.args.allowance (scripts_of es) (numbers c.args.turns.now) c.if-allowance-gt-MOST-TURNS.false
+    many_steps c.args.allowance (scripts_of es) (numbers c.args.turns.now) c.if-allowance-gt-MOST-TURNS.false
     (omega (arith, n, c.in-Some.ensures.few))
     (omega (arith, c.before-first.ensures, all_counted es, c.if-steps-before-first-gt-MOST-STEPS.true))
 
@@ -22,7 +22,7 @@ pub returns-then-turns-gt-MOST-LISTED : goal.returns-then-turns-gt-MOST-LISTED
 returns-then-turns-gt-MOST-LISTED c =
     let es = c.args.steps.now in
     let n = count_is es c.in-Some.found c.in-Some.ensures in
-    many-turns c.args.allowance (scripts_of es) (numbers c.args.turns.now) c.if-allowance-gt-MOST-TURNS.false
+    many_turns c.args.allowance (scripts_of es) (numbers c.args.turns.now) c.if-allowance-gt-MOST-TURNS.false
     (omega (arith, n, c.in-Some.ensures.few))
     (omega (arith, c.before-first.ensures, all_counted es, c.if-steps-before-first-gt-MOST-STEPS.false))
     (omega (arith, length-map c.args.turns.now (λ t. t.0), c.if-turns-gt-MOST-LISTED.true))
@@ -44,7 +44,7 @@ returns c =
     let list = numbers c.args.turns.now in
     let x = c.in-Some.ensures in
     let n = count_is es c.in-Some.found x in (
-      within-limits c.args.allowance (scripts_of es) list c.if-allowance-gt-MOST-TURNS.false
+      within_limits c.args.allowance (scripts_of es) list c.if-allowance-gt-MOST-TURNS.false
           (omega (arith, n, x.few))
           (omega (arith, c.before-first.ensures, all_counted es, c.if-steps-before-first-gt-MOST-STEPS.false))
           (omega (arith, length-map c.args.turns.now (λ t. t.0), c.if-turns-gt-MOST-LISTED.false))

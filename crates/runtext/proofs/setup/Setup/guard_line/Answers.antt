@@ -16,7 +16,7 @@ use Rattle.runtext.specs.Of.{description_of}
 use Rattle.runtext.proofs.Filling.{list_whole}
 use Rattle.runtext.proofs.Limits.{bad_guard, named_below}
 use Rattle.runtext.proofs.Listings.{counted}
-use Rattle.runtext.proofs.Tables.{was_taken, was_refused, with_table, same-table}
+use Rattle.runtext.proofs.Tables.{was_taken, was_refused, with_table, same_table}
 use Rattle.runtext.proofs.Taking.{misplaced, judged, refused, unchanged, taken}
 use Rattle.runtext.proofs.setup.Setup.guard_line.Goals as goal
 
@@ -145,4 +145,4 @@ returns-in-Err c = λ ss ts l.
     let plan = c.in-Err.ensures.plan in
     unchanged s _ ss ts x c.in-Err.cause
     (judged (description_of s ss ts) x (guard form.node a b) (Some c.in-Err.cause) is.0 here some')
-    (same-table s ss ts (nodes_of c.add.new.self.plan) (guards_of c.add.new.self) (ap nodes_of plan) guards') refl refl
+    (same_table s ss ts (nodes_of c.add.new.self.plan) (guards_of c.add.new.self) (ap nodes_of plan) guards') refl refl

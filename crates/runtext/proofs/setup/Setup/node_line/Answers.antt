@@ -14,7 +14,7 @@ use Rattle.runtext.specs.Of.{description_of}
 use Rattle.runtext.proofs.Filling.{list_whole}
 use Rattle.runtext.proofs.Limits.{bad_parents}
 use Rattle.runtext.proofs.Listings.{same_word, counted}
-use Rattle.runtext.proofs.Tables.{was_taken, was_refused, with_table, node-refused-alike, node-added, same-table}
+use Rattle.runtext.proofs.Tables.{was_taken, was_refused, with_table, node_refused_alike, node_added, same_table}
 use Rattle.runtext.proofs.Taking.{misplaced, judged, refused, unchanged, taken}
 use Rattle.runtext.proofs.setup.Setup.node_line.Goals as goal
 
@@ -89,8 +89,8 @@ returns-in-Ok c = λ ss ts l.
     taken s _ ss ss ts ts x
     (judged (description_of s ss ts) x (node w z ns) None is.0
     (sym (c.takes-nodes.ensures ss ts l w z ns) ∙ c.if-not-takes-nodes.false)
-    (node-refused-alike s ss ts w z ns within ∙ none')
-    ∙ ap Ok (node-added s ss ts w z ns (nodes_of c.add-node.new.self.plan) (guards_of c.add-node.new.self) (omega (arith, room, s.long)) nodes' c.in-Ok.ensures.guards
+    (node_refused_alike s ss ts w z ns within ∙ none')
+    ∙ ap Ok (node_added s ss ts w z ns (nodes_of c.add-node.new.self.plan) (guards_of c.add-node.new.self) (omega (arith, room, s.long)) nodes' c.in-Ok.ensures.guards
     ∙ ap₂ (λ (n : ℕ) (v : ℤ). with_table s ss ts (nodes_of c.add-node.new.self.plan) (take (length (nodes_of c.add-node.new.self.plan)) (set s.values n v)) (guards_of c.add-node.new.self)) (sym count) (sym same)))
     (omega arith) refl (omega arith) refl
 
@@ -119,5 +119,5 @@ returns-in-Err c = λ ss ts l.
     unchanged s _ ss ts x c.in-Err.cause
     (judged (description_of s ss ts) x (node w z ns) (Some c.in-Err.cause) is.0
     (sym (c.takes-nodes.ensures ss ts l w z ns) ∙ c.if-not-takes-nodes.false)
-    (node-refused-alike s ss ts w z ns within ∙ some'))
-    (same-table s ss ts (nodes_of c.add-node.new.self.plan) (guards_of c.add-node.new.self) nodes' c.in-Err.ensures.guards) refl refl
+    (node_refused_alike s ss ts w z ns within ∙ some'))
+    (same_table s ss ts (nodes_of c.add-node.new.self.plan) (guards_of c.add-node.new.self) nodes' c.in-Err.ensures.guards) refl refl

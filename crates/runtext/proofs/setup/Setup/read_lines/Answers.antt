@@ -3,7 +3,7 @@ use Rattle.runtext_model.specs.Pieces.{pieces}
 use Rattle.runtext_model.specs.Reading.{read_lines}
 use Rattle.runtext.specs.Counting.{turn_count}
 use Rattle.runtext.specs.Of.{description_of}
-use Rattle.runtext.proofs.LineByLine.{line_taken, line_refused, line-last, kept_later, last_description, left_refused}
+use Rattle.runtext.proofs.LineByLine.{line_taken, line_refused, line_last, kept_later, last_description, left_refused}
 use Rattle.runtext.proofs.setup.Setup.read_lines.Goals as goal
 
 pub returns-in-Some : goal.returns-in-Some
@@ -48,7 +48,7 @@ returns c =
     let (same, steps, turns, is, from, within, few) = at.invariant in
     let text = c.args.text.now in
     let d = description_of at.self at.steps at.turns in
-    let told = sym same ∙ line-last text at.at at.end is from c.loop-end-test.false within d at.line in
+    let told = sym same ∙ line_last text at.at at.end is from c.loop-end-test.false within d at.line in
     record {
       answers = c.last-piece.ensures at.steps at.turns ∙ sym (ap (λ o. o.fault) told);
       leaves = record {

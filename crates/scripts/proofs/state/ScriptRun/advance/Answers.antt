@@ -1,7 +1,7 @@
 use Rattle.std.proofs.Common.{◌≡◌, Some, None, refl, ap, ◌∙◌, arith}
 use Rattle.scripts_model.specs.Schedule.{by_turn}
 use Rattle.scripts.specs.Of.{scripted_of, run_of, told, scheduled}
-use Rattle.scripts.proofs.Turning.{in_time, whose-listed, listed-turn, whose-round, round-turn}
+use Rattle.scripts.proofs.Turning.{in_time, whose_listed, listed_turn, whose_round, round_turn}
 use Rattle.scripts.proofs.state.ScriptRun.advance.Goals as goal
 
 pub returns-then-self-2 : goal.returns-then-self-2
@@ -10,10 +10,10 @@ returns-then-self-2 g c =
     let x = c.take.ensures in
     let d = scripted_of g.R.LockRule.rule g.S.NodeStore.store r in
     let run = run_of g.R.LockRule.rule g.S.NodeStore.store r in
-    let q = whose-listed d r.turns.now r.used r.place r.taken c.if-self-2.true _ ∙ in_time run r.allowance c.if-self.false in
+    let q = whose_listed d r.turns.now r.used r.place r.taken c.if-self-2.true _ ∙ in_time run r.allowance c.if-self.false in
     record {
       turns = x.turns ∙ ap (told d) q;
-      leaves = x.leaves ∙ listed-turn d r.turns.now r.used r.place r.taken c.if-self-2.true _ ∙ ap (by_turn run) q;
+      leaves = x.leaves ∙ listed_turn d r.turns.now r.used r.place r.taken c.if-self-2.true _ ∙ ap (by_turn run) q;
       keeps = x.keeps;
       fewer = omega (arith, x.keeps, ap (λ r. r.turns) x.leaves, c.if-self.false);
     }
@@ -24,7 +24,7 @@ returns-in-None g c =
     let d = scripted_of g.R.LockRule.rule g.S.NodeStore.store r in
     let run = run_of g.R.LockRule.rule g.S.NodeStore.store r in
     let q : None ≡ scheduled r.allowance run =
-    whose-round d r.turns.now r.used r.place r.taken c.if-self-2.false None (c.in-None.ensures.found r.steps.now) ∙ in_time run r.allowance c.if-self.false in
+    whose_round d r.turns.now r.used r.place r.taken c.if-self-2.false None (c.in-None.ensures.found r.steps.now) ∙ in_time run r.allowance c.if-self.false in
     record {
       turns = ap (told d) q;
       leaves = ap (by_turn run) q;
@@ -40,10 +40,10 @@ returns-in-Some g c =
     let d = scripted_of g.R.LockRule.rule g.S.NodeStore.store r in
     let run = run_of g.R.LockRule.rule g.S.NodeStore.store r in
     let q : Some t ≡ scheduled r.allowance run =
-    whose-round d r.turns.now r.used r.place r.taken c.if-self-2.false (Some t) (c.in-Some.ensures.found r.steps.now) ∙ in_time run r.allowance c.if-self.false in
+    whose_round d r.turns.now r.used r.place r.taken c.if-self-2.false (Some t) (c.in-Some.ensures.found r.steps.now) ∙ in_time run r.allowance c.if-self.false in
     record {
       turns = x.turns ∙ ap (told d) q;
-      leaves = x.leaves ∙ round-turn d r.turns.now r.used r.place r.taken c.if-self-2.false t ∙ ap (by_turn run) q;
+      leaves = x.leaves ∙ round_turn d r.turns.now r.used r.place r.taken c.if-self-2.false t ∙ ap (by_turn run) q;
       keeps = x.keeps;
       fewer = omega (arith, x.keeps, ap (λ r. r.turns) x.leaves, c.if-self.false);
     }
