@@ -40,29 +40,25 @@ def module_of(path):
 
 
 def declared(path):
-    """The top-level names of a file, and the fields of its records."""
+    """The names that a file declares, also within a module with parameters, and the fields of its records."""
     names, fields = set(), set()
-    inside = None
+    kind, depth = None, 0
     for line in path.read_text().splitlines():
-        if line.startswith("--"):
+        if not line.strip() or line.lstrip().startswith("--") or re.match(r"(pub )?(use|mod|open) ", line):
             continue
-        if line and not line[0].isspace():
-            inside = None
-            head = HEAD.match(line)
-            if head and not line.startswith(("use ", "open ", "mod ", "pub mod", "pub use")):
-                if re.search(r":\s*goal\.", line):
-                    continue
-                names.add(head.group(2))
-                inside = head.group(1)
-        elif inside:
+        indent = len(line) - len(line.lstrip())
+        if kind and indent > depth:
             field = FIELD.match(line)
             if field:
-                (fields if inside == "record" else names).add(field.group(1))
-        else:
-            # what stands in a module with parameters, or between definitions
-            inner = INNER.match(line)
-            if inner and inner.group(1) != "|":
-                names.add(inner.group(1))
+                (fields if kind == "record" else names).add(field.group(1))
+            continue
+        kind = None
+        head = HEAD.match(line.strip())
+        if not head or re.search(r":\s*goal\.", line):
+            continue
+        if indent == 0 or head.group(1) or INNER.match(line):
+            names.add(head.group(2))
+        kind, depth = head.group(1), indent
     return names, fields
 
 

@@ -61,7 +61,7 @@ module _ (first : Store) (s : State) (C : ℕ → List ℕ) (A : List Access) (i
       → Inv first (with_store s store) C (A ++ (record { by = t; node = n; operation = d; answer = a } ∷ []))
   access_kept t n d a store h e z c =
       let x : Access = record { by = t; node = n; operation = d; answer = a } in
-      let (xs, q) = i.kept.held-last n t h in
+      let (xs, q) = i.kept.held_last n t h in
       record {
         entry = i.entry;
         kept = same_kept s.rule (view s C i.entry A) i.kept _

@@ -22,7 +22,7 @@ module _ (rule : Rule) where
 
   module _ (s : View) (k : Kept rule s) where
     pub held_locked : (u : ℕ) → Within (s.held u) (s.locked u)
-    held_locked u m h = let (xs, q) = k.held-last m u h in (k.locked_is m u).1 (rw q (in_last xs u))
+    held_locked u m h = let (xs, q) = k.held_last m u h in (k.locked_is m u).1 (rw q (in_last xs u))
 
     allowed_reason : (n t e : ℕ) → Allowed rule s n t e → (n ≡ e) ⊎ Reason rule n (s.locked t)
     allowed_reason n t e (inl a) = inl (sym a.1)
@@ -40,7 +40,7 @@ module _ (rule : Rule) where
     met n u v e ne r (inl a) = inl (sym a.1)
     met n u v e ne r (inr a) =
         let (p, below, in-H, in-K) = meeting n (s.locked u) r (s.locked v) (s.held v) a.0 (held_locked v) a.1 in
-        let (xs, q) = k.held-last p v in-K in
+        let (xs, q) = k.held_last p v in-K in
         let j : In u (xs ++ (v ∷ [])) = rw q at ((k.locked_is p u).0 (r.part p in-H)) in
         let b : Before u v (xs ++ (v ∷ [])) = elim (in_push xs v u j) [ inl l ↦ before_last xs v u l | inr z ↦ absurd (ne z) ] in
         inr (p, below, rw q b)
@@ -133,9 +133,9 @@ module _ (rule : Rule) where
           ],
           λ i. (g.locks m u).1 (elim (in_after m u i) [ inl j ↦ inl ((k.locked_is m u).1 j) | inr j ↦ inr j ]),
         );
-        held-last = λ m u h. elim ((g.holds m u).0 h) [
+        held_last = λ m u h. elim ((g.holds m u).0 h) [
           | inl l ↦
-              let (xs, q) = k.held-last m u l in
+              let (xs, q) = k.held_last m u l in
               (xs, g.elsewhere m (λ z. g.free u (rw z at l)) ∙ q)
           | inr j ↦ (s.lockers n, rw (j.0, j.1) g.here)
         ];
@@ -154,7 +154,7 @@ module _ (rule : Rule) where
         record {
           descending = rw (c, d) k.descending;
           locked_is = λ m u. rw (e.locked u, c) (k.locked_is m u);
-          held-last = λ m u h. rw c (k.held-last m u (less m u h));
+          held_last = λ m u h. rw c (k.held_last m u (less m u h));
           reason = λ m u i. rw (d, e.locked u) (k.reason m u (rw c at i));
           traced = rw c traced;
         }
@@ -169,7 +169,7 @@ module _ (rule : Rule) where
       lower = λ m u v b. absurd (rw (nobody m) at b);
     };
     locked_is = λ m u. (λ h. absurd (unlocked m u h), λ i. absurd (rw (nobody m) at i));
-    held-last = λ m u h. absurd (unheld m u h);
+    held_last = λ m u h. absurd (unheld m u h);
     reason = λ m u i. absurd (rw (nobody m) at i);
     traced = λ m. rw (quiet, nobody m) refl;
   }

@@ -47,7 +47,7 @@ module _ (rule : Rule) (s : View) (k : Kept rule s) (U : List ℕ) (want : ℕ �
     waits_first : (w n u : ℕ) → In w U → want w ≡ n → n ∈ s.held u → Before u w (s.lockers n ++ queue n)
     unfolding queue
     waits_first w n u i q h =
-        let (xs, z) = k.held-last n u h in
+        let (xs, z) = k.held_last n u h in
         before_across (s.lockers n) (queue n) u w (rw z (in_last xs u)) (kept_by_in (λ t. eqb (want t) n) U w i (eq-eqb _ _ q))
 
     -- of any transactions, one that none of them precedes, as a locker or as the holder of a node that it waits for

@@ -21,8 +21,8 @@ no_script d t h = sym (cond-true _ (Some LimitExceeded) None (le-leb (length d.s
 pub some_script : (d : Scripted) (t : ℕ) → t < length d.scripts → None ≡ turn_refusal d t
 some_script d t h = sym (cond-false _ (Some LimitExceeded) None (lt-leb (length d.scripts) t h))
 
-pub used-up : (r : RunState) (allowance : ℕ) → allowance ≤ r.turns → None ≡ scheduled allowance r
-used-up r allowance h = sym (cond-false _ (whose r.list r.scripted.scripts r.place) None (le-ltb r.turns allowance h))
+pub used_up : (r : RunState) (allowance : ℕ) → allowance ≤ r.turns → None ≡ scheduled allowance r
+used_up r allowance h = sym (cond-false _ (whose r.list r.scripted.scripts r.place) None (le-ltb r.turns allowance h))
 
 pub in_time : (r : RunState) (allowance : ℕ) → r.turns < allowance → whose r.list r.scripted.scripts r.place ≡ scheduled allowance r
 in_time r allowance h = sym (cond-true _ (whose r.list r.scripted.scripts r.place) None (lt-ltb r.turns allowance h))
@@ -72,7 +72,7 @@ module _ (r r' : RunState) (allowance : ℕ) (done : r' ≡ by_turn r (scheduled
         | inl h ↦
             let fewer : allowance - r'.turns ≡ (allowance - r.turns) - 1 = omega (arith, ap (λ r. r.turns) e) in
             ap (λ n. played n r') fewer ∙ onward t (allowance - r.turns) (omega arith) (sym (in_time r allowance h ∙ w)) e
-        | inr h ↦ let z : ◌≡◌ {A = ℕ} 0 1 = cc (used-up r allowance h, w) in absurd (omega arith)
+        | inr h ↦ let z : ◌≡◌ {A = ℕ} 0 1 = cc (used_up r allowance h, w) in absurd (omega arith)
       ]
 
   -- none is left

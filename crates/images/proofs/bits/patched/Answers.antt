@@ -15,11 +15,11 @@ result-is c =
     ap (λ m. bit_or (bit_and c.args.byte (255 - m)) (c.args.piece * 2 ^ c.args.shift % 2 ^ 32)) (mask_is c)
     ∙ ap (bit_or (bit_and c.args.byte (255 - (2 ^ c.args.take - 1) * 2 ^ c.args.shift))) piece
 
-pub overflow-sub-result : goal.overflow-sub-result
-overflow-sub-result c = omega (arith, mask_is c, mask_small c.args.shift c.args.take c.requires.0)
+pub overflow_sub-result : goal.overflow_sub-result
+overflow_sub-result c = omega (arith, mask_is c, mask_small c.args.shift c.args.take c.requires.0)
 
-pub overflow-cast-result-2 : goal.overflow-cast-result-2
-overflow-cast-result-2 c = record { fits = omega (arith, result-is c, patch_small c.args.byte c.args.shift c.args.take c.args.piece (omega arith) c.requires.0 c.requires.1) }
+pub overflow_cast-result-2 : goal.overflow_cast-result-2
+overflow_cast-result-2 c = record { fits = omega (arith, result-is c, patch_small c.args.byte c.args.shift c.args.take c.args.piece (omega arith) c.requires.0 c.requires.1) }
 
 pub returns : goal.returns
 returns c = λ p.

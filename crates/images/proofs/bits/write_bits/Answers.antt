@@ -7,18 +7,18 @@ use Rattle.images.proofs.bits.write_bits.Goals as goal
 pub loop-left-preserved : goal.loop-left-preserved
 loop-left-preserved c =
     let image = c.loop-left.image in
-    let take = c.in-one-byte-take.result in
+    let take = c.in_one_byte-take.result in
     let from = c.loop-left.from in
     let left = c.loop-left.left in
     let at = c.args.at in
     let width = c.args.width in
     let u = c.args.bits in
     let s = 8 - from % 8 - take in
-    let patched : (p : ℕ) → has c.patched.result p ≡ cond (leb s p && ltb p (s + take)) (has (u / 2 ^ (left - take) % 2 ^ take) (p - s)) (has (get_or image (from / 8) 0) p) = λ p. c.patched.ensures p ∙ ap (λ m. cond (leb s p && ltb p (s + take)) (has m (p - s)) (has (get_or image (from / 8) 0) p)) c.piece-of-piece.ensures in (
-      omega (arith, c.loop-left.invariant.0, c.in-one-byte-take.ensures.within),
+    let patched : (p : ℕ) → has c.patched.result p ≡ cond (leb s p && ltb p (s + take)) (has (u / 2 ^ (left - take) % 2 ^ take) (p - s)) (has (get_or image (from / 8) 0) p) = λ p. c.patched.ensures p ∙ ap (λ m. cond (leb s p && ltb p (s + take)) (has m (p - s)) (has (get_or image (from / 8) 0) p)) c.piece_of-piece.ensures in (
+      omega (arith, c.loop-left.invariant.0, c.in_one_byte-take.ensures.within),
       omega (arith, c.loop-left.invariant.1),
-      λ i. write_more (image_bit c.args.image.now) (image_bit image i) _ at width from left take u i c.loop-left.invariant.0 c.loop-left.invariant.1 c.in-one-byte-take.ensures.within (c.loop-left.invariant.2 i)
-          (write_step image from left take u c.patched.result (omega (arith, c.loop-left.invariant.0)) c.in-one-byte-take.ensures.within c.in-one-byte-take.ensures.fits patched i),
+      λ i. write_more (image_bit c.args.image.now) (image_bit image i) _ at width from left take u i c.loop-left.invariant.0 c.loop-left.invariant.1 c.in_one_byte-take.ensures.within (c.loop-left.invariant.2 i)
+          (write_step image from left take u c.patched.result (omega (arith, c.loop-left.invariant.0)) c.in_one_byte-take.ensures.within c.in_one_byte-take.ensures.fits patched i),
     )
 
 pub returns : goal.returns

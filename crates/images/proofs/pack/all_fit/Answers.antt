@@ -7,14 +7,14 @@ use Rattle.image_model.specs.Fields.{fits}
 use Rattle.image_model.proofs.Packing.{fit_next, fit_end}
 use Rattle.images.proofs.pack.all_fit.Goals as goal
 
-pub returns-then-not-value-fits : goal.returns-then-not-value-fits
-returns-then-not-value-fits c =
+pub returns-then-not-value_fits : goal.returns-then-not-value_fits
+returns-then-not-value_fits c =
     let nodes = nodes_of c.args.plan.now in
     let n = c.loop-n.n in
     let v = get_or c.args.values.now n (pos 0) in
     let small : SFits w32 v = search rules in
     let e = fit_next nodes c.args.values.now n (omega arith) (omega arith) in
-    let t = c.if-not-value-fits.ensures ∙ ap (fits (node_at nodes n).width) (to_z-of_z w32 v small) in
+    let t = c.if-not-value_fits.ensures ∙ ap (fits (node_at nodes n).width) (to_z-of_z w32 v small) in
     let i = c.loop-n.invariant in
     grind (arith, nat_tests)
 
@@ -25,7 +25,7 @@ loop-n-preserved c =
     let v = get_or c.args.values.now n (pos 0) in
     let small : SFits w32 v = search rules in
     let e = fit_next nodes c.args.values.now n (omega arith) (omega arith) in
-    let t = c.if-not-value-fits.ensures ∙ ap (fits (node_at nodes n).width) (to_z-of_z w32 v small) in
+    let t = c.if-not-value_fits.ensures ∙ ap (fits (node_at nodes n).width) (to_z-of_z w32 v small) in
     let i = c.loop-n.invariant in
     grind (arith, nat_tests)
 

@@ -10,17 +10,17 @@ use Rattle.images.proofs.pack.unpack.Goals as goal
 pub loop-n-preserved : goal.loop-n-preserved
 loop-n-preserved c =
     let nodes = nodes_of c.args.plan.now in
-    let r = c.unpack-value.result in
+    let r = c.unpack_value.result in
     let small : SFits w32 r = search rules in
-    let long = may_unpack nodes (length c.args.values.now) (length c.args.image.now) (sym c.in-default.ensures) in
-    unpack_step nodes c.args.image.now c.loop-n.values c.args.values.now c.loop-n.n (to_z w32 (of_z w32 r)) (omega (arith, c.loop-n.auto.values, long.values_long)) (to_z-of_z w32 r small ∙ c.unpack-value.ensures) c.loop-n.invariant.0 c.loop-n.invariant.1
+    let long = may_unpack nodes (length c.args.values.now) (length c.args.image.now) (sym c.in_default.ensures) in
+    unpack_step nodes c.args.image.now c.loop-n.values c.args.values.now c.loop-n.n (to_z w32 (of_z w32 r)) (omega (arith, c.loop-n.auto.values, long.values_long)) (to_z-of_z w32 r small ∙ c.unpack_value.ensures) c.loop-n.invariant.0 c.loop-n.invariant.1
 
 pub returns : goal.returns
 returns c =
     let nodes = nodes_of c.args.plan.now in
     let image = c.args.image.now in
     let first = c.args.values.now in
-    let none = c.in-default.ensures in
+    let none = c.in_default.ensures in
     let last : c.loop-n.n ≡ length nodes = omega arith in
     let all = unpack_end nodes image c.loop-n.values first (subst (λ n. take n c.loop-n.values ≡ unpacked nodes image n) last c.loop-n.invariant.0) (subst (λ n. drop n c.loop-n.values ≡ drop n first) last c.loop-n.invariant.1) in
     record {

@@ -20,16 +20,16 @@ returns c =
     let f = c.in-Some.f in
     let lies = c.in-Some.ensures in
     let same = to_z-of_z w32 v c.ranges.v in
-    let taken : true ≡ may_put (image_store nodes image) n v = c.if-not-fits-width.ensures ∙ ap (fits f.width) same ∙ sym (takes_field nodes image n f.start f.width v lies) in
+    let taken : true ≡ may_put (image_store nodes image) n v = c.if-not-fits_width.ensures ∙ ap (fits f.width) same ∙ sym (takes_field nodes image n f.start f.width v lies) in
     record {
       says = taken;
-      leaves = put_field nodes image c.write-bits.new.image n f.start f.width c.twos-complement.result v (plan_wide s.plan.now) lies c.write-bits.auto.image c.twos-complement.ensures.small (c.twos-complement.ensures.back ∙ same) c.write-bits.ensures
+      leaves = put_field nodes image c.write_bits.new.image n f.start f.width c.twos_complement.result v (plan_wide s.plan.now) lies c.write_bits.auto.image c.twos_complement.ensures.small (c.twos_complement.ensures.back ∙ same) c.write_bits.ensures
           ∙ sym (cond-true (may_put (image_store nodes image) n v) (set_value (image_store nodes image) n v) (image_store nodes image) (sym taken));
       plan = refl;
-      long = c.write-bits.auto.image;
+      long = c.write_bits.auto.image;
       bits = λ i.
-          c.write-bits.ensures i
-          ∙ ap (λ u. with_field (image_bit image) f.start f.width u i) (c.twos-complement.ensures.bits ∙ ap (bits_of f.width) same)
+          c.write_bits.ensures i
+          ∙ ap (λ u. with_field (image_bit image) f.start f.width u i) (c.twos_complement.ensures.bits ∙ ap (bits_of f.width) same)
           ∙ ap (λ a. with_field (image_bit image) a f.width (bits_of f.width v) i) lies.starts
           ∙ ap (λ w. with_field (image_bit image) (field_start nodes n) w (bits_of w v) i) lies.spans;
     }
