@@ -1,6 +1,6 @@
 // What a session answers.
 ghost use Rattle.std.specs.Prelude.{◌≡◌, true, ◌↔◌};
-ghost use Rattle.session.specs.Equal.{SameAnswer};
+ghost use Rattle.session.specs.Equal.{SameAnswer, equal_answers};
 ghost use Rattle.std.specs.Cmp.Rules.{comparing};
 ghost use Rattle.std.proofs.Common.{rules};
 
@@ -16,11 +16,14 @@ pub enum Answer {
 }
 
 impl PartialEq for Answer {
-    ghost equals = { λ a b r. (r ≡ true) ↔ SameAnswer a b };
+    ghost eq = { equal_answers };
 
     ghost laws = { Prim.search (comparing, rules) };
 
-    fn eq(&self, other: &Answer) -> bool {
+    fn eq(&self, other: &Answer) -> bool
+        ensures test { result ≡ equal_answers self.now other.now }
+        ensures same { (result ≡ true) ↔ SameAnswer self.now other.now }
+    {
         match (*self, *other) {
             (Answer::Done(x), Answer::Done(y)) => x == y,
             (Answer::Waiting(u), Answer::Waiting(v)) => u.0 == v.0,

@@ -9,8 +9,8 @@ use Rattle.session.specs.Reports.{AllBefore}
 use Rattle.session.proofs.Walking.{same_reached, small_reached, none_reached}
 use Rattle.session.proofs.state.Session.before.Goals as goal
 
-pub overflow-cast-result : goal.overflow-cast-result
-overflow-cast-result g c =
+pub overflow_cast-result : goal.overflow_cast-result
+overflow_cast-result g c =
     let p = c.predecessors-all.result in
     let found = subst (λ x. Reached (edge_to p) x c.reach-found.result) c.mask.ensures c.reach-found.ensures in
     omega (arith, small_reached (reported p) c.args.t.0 c.reach-found.result 32 c.predecessors-all.ensures.small found)

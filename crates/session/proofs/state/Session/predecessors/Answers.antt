@@ -15,8 +15,8 @@ loop-t-preserved g c =
     let m = model_of g.R.LockRule.rule g.S.NodeStore.store c.args.self.now in
     let l : c.loop-t.t < length c.loop-t.of = omega arith in (
       simp length-set c.loop-t.invariant.0,
-      table_more (predecessors m) c.loop-t.of c.loop-t.t c.predecessors-of.result l c.predecessors-of.ensures c.loop-t.invariant.1,
-      small_more (2 ^ 32) c.loop-t.of c.loop-t.t c.predecessors-of.result l (search rules) c.loop-t.invariant.2,
+      table_more (predecessors m) c.loop-t.of c.loop-t.t c.predecessors_of.result l c.predecessors_of.ensures c.loop-t.invariant.1,
+      small_more (2 ^ 32) c.loop-t.of c.loop-t.t c.predecessors_of.result l (search rules) c.loop-t.invariant.2,
     )
 
 pub returns : goal.returns
