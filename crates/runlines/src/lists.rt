@@ -29,9 +29,9 @@ pub fn write_order<R: LockRule, S: NodeStore>(
     session: &Session<R, S>,
     out: &mut [u8],
 ) -> Result<usize, Refusal>
-    ensures answers { result ≡ line_answer (order_line (model_of R.LockRule.rule S.NodeStore.store session.now)) out.old }
-    ensures leaves { out.new ≡ line_left (order_line (model_of R.LockRule.rule S.NodeStore.store session.now)) out.old }
-    ensures fits { length (order_line (model_of R.LockRule.rule S.NodeStore.store session.now)) ≤ 512 }
+    ensures answers { result ≡ line_answer (order_line (model_of R.rule S.store session.now)) out.old }
+    ensures leaves { out.new ≡ line_left (order_line (model_of R.rule S.store session.now)) out.old }
+    ensures fits { length (order_line (model_of R.rule S.store session.now)) ≤ 512 }
 {
     let mut order = [0; 32];
     let n = session.order(&mut order)?;
@@ -40,9 +40,9 @@ pub fn write_order<R: LockRule, S: NodeStore>(
 
 // The value of each node of the store: `V 0 1 50`.
 pub fn write_values<S: NodeStore>(store: &S, out: &mut [u8]) -> Result<usize, Refusal>
-    ensures answers { result ≡ line_answer (values_line (S.NodeStore.store store.now)) out.old }
-    ensures leaves { out.new ≡ line_left (values_line (S.NodeStore.store store.now)) out.old }
-    ensures fits { length (values_line (S.NodeStore.store store.now)) ≤ 512 }
+    ensures answers { result ≡ line_answer (values_line (S.store store.now)) out.old }
+    ensures leaves { out.new ≡ line_left (values_line (S.store store.now)) out.old }
+    ensures fits { length (values_line (S.store store.now)) ≤ 512 }
 {
     let mut line = Line::starting(Word::Letter(b'V'));
     for n in 0..store.count() {

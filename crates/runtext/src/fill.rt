@@ -46,7 +46,7 @@ pub(crate) fn fill<T: Numbered>(line: Part, list: Numbers, out: &mut [T]) -> usi
     requires lists { Lists line.bytes.now list.from list }
     requires small { list.limit ≤ 256 }
     ensures count { result ≡ min list.count (length out.old) }
-    ensures filled { out.new ≡ map T.Numbered.numbered (take result (front (pieces_from line.entry.bytes.now list.from))) ++ drop result out.old }
+    ensures filled { out.new ≡ map T.numbered (take result (front (pieces_from line.entry.bytes.now list.from))) ++ drop result out.old }
 {
     let count = least(list.count, out.len());
     let mut next = list.from;

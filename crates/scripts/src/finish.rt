@@ -13,15 +13,15 @@ use stores::store::NodeStore;
 impl<'s, R: LockRule, S: NodeStore> ScriptRun<'s, R, S> {
     // How far the run is.
     pub fn totals(&self) -> Totals
-        ensures { result ≡ totals_of (run_of rule store self.now) }
+        ensures { result ≡ totals_of (run_of R.rule S.store self.now) }
     {
         totals_at(self.taken, &self.cursors, self.count)
     }
 
     // Takes turns until the run stops.
     pub fn play(&mut self) -> Totals
-        ensures totals { result ≡ totals_of (run_of rule store self.new) }
-        ensures leaves { run_of rule store self.new ≡ played (self.old.allowance - self.old.taken) (run_of rule store self.old) }
+        ensures totals { result ≡ totals_of (run_of R.rule S.store self.new) }
+        ensures leaves { run_of R.rule S.store self.new ≡ played (self.old.allowance - self.old.taken) (run_of R.rule S.store self.old) }
         ensures keeps { self.new.allowance ≡ self.old.allowance }
     {
         while let Some(_) = self.advance() {}

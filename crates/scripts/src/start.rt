@@ -59,7 +59,7 @@ fn admit(steps: &[Step], turns: &[TransactionNumber], allowance: u32) -> Result<
 
 // A session in which so many transactions are begun.
 fn with_begun<R: LockRule, S: NodeStore>(rule: R, store: S, count: u8) -> Session<R, S>
-    ensures { model_of R.LockRule.rule S.NodeStore.store result ≡ (begun_session (R.LockRule.rule rule) (S.NodeStore.store store) count).state }
+    ensures { model_of R.rule S.store result ≡ (begun_session (R.rule rule) (S.store store) count).state }
 {
     let mut session = Session::new(rule, store);
     for i in 0..count {
@@ -80,7 +80,7 @@ impl<'s, R: LockRule, S: NodeStore> ScriptRun<'s, R, S> {
     ) -> Result<ScriptRun<'s, R, S>, NotStarted<R, S>>
         ensures { elim result [
           | Ok run ↦
-              Started (R.LockRule.rule rule) (S.NodeStore.store store) (scripts_of steps.now) (numbers turns.now) allowance (run_of R.LockRule.rule S.NodeStore.store run)
+              Started (R.rule rule) (S.store store) (scripts_of steps.now) (numbers turns.now) allowance (run_of R.rule S.store run)
               × (run.allowance ≡ allowance)
           | Err e ↦
               (start_refusal allowance (scripts_of steps.now) (numbers turns.now) ≡ Some e.refusal)

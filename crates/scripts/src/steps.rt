@@ -32,8 +32,8 @@ pub(crate) fn perform<R: LockRule, S: NodeStore>(
     t: TransactionNumber,
     step: Step,
 ) -> Answer
-    ensures answers { answer_of result ≡ answer (model_of rule store session.old) (call_by t.0 (action_of step)) }
-    ensures leaves { model_of rule store session.new ≡ after (model_of rule store session.old) (call_by t.0 (action_of step)) (answer_of result) }
+    ensures answers { answer_of result ≡ answer (model_of R.rule S.store session.old) (call_by t.0 (action_of step)) }
+    ensures leaves { model_of R.rule S.store session.new ≡ after (model_of R.rule S.store session.old) (call_by t.0 (action_of step)) (answer_of result) }
 {
     match step {
         Step::End => session.end(t),

@@ -19,8 +19,8 @@ use stores::store::NodeStore;
 impl<'s, R: LockRule, S: NodeStore> ScriptRun<'s, R, S> {
     // Takes the next step of script t; None where it is done, or not there.
     fn step(&mut self, t: TransactionNumber) -> Option<Answer>
-        ensures answers { answer_or_none result ≡ turn_answer (scripted_of rule store self.old) t.0 }
-        ensures leaves { run_of rule store self.new ≡ turned_alone (run_of rule store self.old) t.0 }
+        ensures answers { answer_or_none result ≡ turn_answer (scripted_of R.rule S.store self.old) t.0 }
+        ensures leaves { run_of R.rule S.store self.new ≡ turned_alone (run_of R.rule S.store self.old) t.0 }
         ensures keeps { self.new.allowance ≡ self.old.allowance }
     {
         if t.0 >= self.count {
@@ -41,8 +41,8 @@ impl<'s, R: LockRule, S: NodeStore> ScriptRun<'s, R, S> {
 
     // A turn of script t by itself, apart from the list, the rounds and the count.
     pub fn turn(&mut self, script: TransactionNumber) -> Result<Option<Answer>, Refusal>
-        ensures answers { result_of result ≡ answer_unless (turn_refusal (scripted_of rule store self.old) script.0) (turn_answer (scripted_of rule store self.old) script.0) }
-        ensures leaves { run_of rule store self.new ≡ leave_unless (turn_refusal (scripted_of rule store self.old) script.0) (run_of rule store self.old) (turned_alone (run_of rule store self.old) script.0) }
+        ensures answers { result_of result ≡ answer_unless (turn_refusal (scripted_of R.rule S.store self.old) script.0) (turn_answer (scripted_of R.rule S.store self.old) script.0) }
+        ensures leaves { run_of R.rule S.store self.new ≡ leave_unless (turn_refusal (scripted_of R.rule S.store self.old) script.0) (run_of R.rule S.store self.old) (turned_alone (run_of R.rule S.store self.old) script.0) }
         ensures keeps { self.new.allowance ≡ self.old.allowance }
     {
         if script.0 >= self.count {
@@ -54,8 +54,8 @@ impl<'s, R: LockRule, S: NodeStore> ScriptRun<'s, R, S> {
     // A turn that counts.
     fn take(&mut self, script: TransactionNumber) -> Turn
         requires { self.old.taken < 4294967295 }
-        ensures turns { turn_of (Some result) ≡ told (scripted_of rule store self.old) (Some script.0) }
-        ensures leaves { run_of rule store self.new ≡ turn_counted (run_of rule store self.old) script.0 }
+        ensures turns { turn_of (Some result) ≡ told (scripted_of R.rule S.store self.old) (Some script.0) }
+        ensures leaves { run_of R.rule S.store self.new ≡ turn_counted (run_of R.rule S.store self.old) script.0 }
         ensures keeps { self.new.allowance ≡ self.old.allowance }
     {
         self.taken += 1;
@@ -66,8 +66,8 @@ impl<'s, R: LockRule, S: NodeStore> ScriptRun<'s, R, S> {
     // The next turn: those of the list, then rounds. None where the run has stopped: the list is used and every script is
     // done, or the allowance is used up.
     pub fn advance(&mut self) -> Option<Turn>
-        ensures turns { turn_of result ≡ told (scripted_of rule store self.old) (scheduled self.old.allowance (run_of rule store self.old)) }
-        ensures leaves { run_of rule store self.new ≡ by_turn (run_of rule store self.old) (scheduled self.old.allowance (run_of rule store self.old)) }
+        ensures turns { turn_of result ≡ told (scripted_of R.rule S.store self.old) (scheduled self.old.allowance (run_of R.rule S.store self.old)) }
+        ensures leaves { run_of R.rule S.store self.new ≡ by_turn (run_of R.rule S.store self.old) (scheduled self.old.allowance (run_of R.rule S.store self.old)) }
         ensures keeps { self.new.allowance ≡ self.old.allowance }
         ensures fewer { OnSome result (self.new.allowance - self.new.taken < self.old.allowance - self.old.taken) }
     {

@@ -33,8 +33,8 @@ pub fn run_scripts<'s, R: LockRule, S: NodeStore>(
 ) -> Result<Outcome<R, S>, NotStarted<R, S>>
     ensures { elim result [
       | Ok end ↦
-          Stopped (R.LockRule.rule rule) (S.NodeStore.store store) (scripts_of steps.now) (numbers turns.now) allowance (model_of R.LockRule.rule S.NodeStore.store end.session)
-          × (end.totals ≡ totals_of (script_run (R.LockRule.rule rule) (S.NodeStore.store store) (scripts_of steps.now) (numbers turns.now) allowance))
+          Stopped (R.rule rule) (S.store store) (scripts_of steps.now) (numbers turns.now) allowance (model_of R.rule S.store end.session)
+          × (end.totals ≡ totals_of (script_run (R.rule rule) (S.store store) (scripts_of steps.now) (numbers turns.now) allowance))
       | Err e ↦
           (start_refusal allowance (scripts_of steps.now) (numbers turns.now) ≡ Some e.refusal)
           × (e.rule ≡ rule) × (e.store ≡ store)

@@ -18,8 +18,8 @@ use stores::store::NodeStore;
 impl<R: LockRule, S: NodeStore> Session<R, S> {
     // Reads the value of n, which t holds.
     pub fn read(&mut self, t: TransactionNumber, n: NodeNumber) -> Answer
-        ensures answers { answer_of result ≡ answer (model_of rule store self.old) (calls.access t.0 n.0 calls.read) }
-        ensures leaves { model_of rule store self.new ≡ after (model_of rule store self.old) (calls.access t.0 n.0 calls.read) (answer_of result) }
+        ensures answers { answer_of result ≡ answer (model_of R.rule S.store self.old) (calls.access t.0 n.0 calls.read) }
+        ensures leaves { model_of R.rule S.store self.new ≡ after (model_of R.rule S.store self.old) (calls.access t.0 n.0 calls.read) (answer_of result) }
     {
         match self.use_refusal(t, n) {
             Some(cause) => Answer::Refused(cause),
@@ -29,8 +29,8 @@ impl<R: LockRule, S: NodeStore> Session<R, S> {
 
     // Writes v to n, which t holds.
     pub fn write(&mut self, t: TransactionNumber, n: NodeNumber, v: i32) -> Answer
-        ensures answers { answer_of result ≡ answer (model_of rule store self.old) (calls.access t.0 n.0 (calls.write v)) }
-        ensures leaves { model_of rule store self.new ≡ after (model_of rule store self.old) (calls.access t.0 n.0 (calls.write v)) (answer_of result) }
+        ensures answers { answer_of result ≡ answer (model_of R.rule S.store self.old) (calls.access t.0 n.0 (calls.write v)) }
+        ensures leaves { model_of R.rule S.store self.new ≡ after (model_of R.rule S.store self.old) (calls.access t.0 n.0 (calls.write v)) (answer_of result) }
     {
         match self.use_refusal(t, n) {
             Some(cause) => Answer::Refused(cause),
@@ -40,8 +40,8 @@ impl<R: LockRule, S: NodeStore> Session<R, S> {
 
     // Adds d to the value of n, which t holds.
     pub fn adjust(&mut self, t: TransactionNumber, n: NodeNumber, d: i32) -> Answer
-        ensures answers { answer_of result ≡ answer (model_of rule store self.old) (calls.access t.0 n.0 (calls.adjust d)) }
-        ensures leaves { model_of rule store self.new ≡ after (model_of rule store self.old) (calls.access t.0 n.0 (calls.adjust d)) (answer_of result) }
+        ensures answers { answer_of result ≡ answer (model_of R.rule S.store self.old) (calls.access t.0 n.0 (calls.adjust d)) }
+        ensures leaves { model_of R.rule S.store self.new ≡ after (model_of R.rule S.store self.old) (calls.access t.0 n.0 (calls.adjust d)) (answer_of result) }
     {
         match self.use_refusal(t, n) {
             Some(cause) => Answer::Refused(cause),
@@ -51,9 +51,9 @@ impl<R: LockRule, S: NodeStore> Session<R, S> {
 
     // Adds d to the value of n, or refuses.
     fn add(&mut self, n: NodeNumber, d: i32) -> Answer
-        requires { n.0 < count (model_of rule store self.old) }
-        ensures answers { answer_of result ≡ unless_refused (first_refusal (operation_checks (store self.old.store) n.0 (calls.adjust d))) (calls.done (pos 0)) }
-        ensures leaves { model_of rule store self.new ≡ after (model_of rule store self.old) (calls.access 0 n.0 (calls.adjust d)) (answer_of result) }
+        requires { n.0 < count (model_of R.rule S.store self.old) }
+        ensures answers { answer_of result ≡ unless_refused (first_refusal (operation_checks (S.store self.old.store) n.0 (calls.adjust d))) (calls.done (pos 0)) }
+        ensures leaves { model_of R.rule S.store self.new ≡ after (model_of R.rule S.store self.old) (calls.access 0 n.0 (calls.adjust d)) (answer_of result) }
     {
         if !is_amount(d) {
             return Answer::Refused(Refusal::AmountOutOfBounds);
@@ -64,9 +64,9 @@ impl<R: LockRule, S: NodeStore> Session<R, S> {
 
     // Puts v at n, or refuses.
     fn put(&mut self, n: NodeNumber, v: i32) -> Answer
-        requires { n.0 < count (model_of rule store self.old) }
-        ensures answers { answer_of result ≡ unless_refused (first_refusal (operation_checks (store self.old.store) n.0 (calls.write (v)))) (calls.done (pos 0)) }
-        ensures leaves { model_of rule store self.new ≡ after (model_of rule store self.old) (calls.access 0 n.0 (calls.write (v))) (answer_of result) }
+        requires { n.0 < count (model_of R.rule S.store self.old) }
+        ensures answers { answer_of result ≡ unless_refused (first_refusal (operation_checks (S.store self.old.store) n.0 (calls.write v))) (calls.done (pos 0)) }
+        ensures leaves { model_of R.rule S.store self.new ≡ after (model_of R.rule S.store self.old) (calls.access 0 n.0 (calls.write v)) (answer_of result) }
     {
         if self.store.put(n, v) {
             Answer::Done(0)

@@ -20,8 +20,8 @@ use stores::store::NodeStore;
 impl<R: LockRule, S: NodeStore> Session<R, S> {
     // Begins one more transaction, and answers its number.
     pub fn begin(&mut self) -> Answer
-        ensures answers { answer_of result ≡ answer (model_of rule store self.old) calls.begin }
-        ensures leaves { model_of rule store self.new ≡ after (model_of rule store self.old) calls.begin (answer_of result) }
+        ensures answers { answer_of result ≡ answer (model_of R.rule S.store self.old) calls.begin }
+        ensures leaves { model_of R.rule S.store self.new ≡ after (model_of R.rule S.store self.old) calls.begin (answer_of result) }
     {
         if self.begun >= 32 {
             return Answer::Refused(Refusal::TooManyTransactions);
@@ -33,8 +33,8 @@ impl<R: LockRule, S: NodeStore> Session<R, S> {
 
     // Why t may not lock n.
     fn lock_refusal(&self, t: TransactionNumber, n: NodeNumber) -> Option<Refusal>
-        ensures refuses { result ≡ first_refusal (lock_checks (model_of rule store self.now) t.0 n.0) }
-        ensures fits { result ≡ None → (t.0 < 32) × (n.0 < count (model_of rule store self.now)) }
+        ensures refuses { result ≡ first_refusal (lock_checks (model_of R.rule S.store self.now) t.0 n.0) }
+        ensures fits { result ≡ None → (t.0 < 32) × (n.0 < count (model_of R.rule S.store self.now)) }
     {
         if t.0 >= self.begun_count() {
             return Some(Refusal::NotBegun);
@@ -67,8 +67,8 @@ impl<R: LockRule, S: NodeStore> Session<R, S> {
 
     // Locks n for t, or has t wait for it where another holds it.
     pub fn lock(&mut self, t: TransactionNumber, n: NodeNumber) -> Answer
-        ensures answers { answer_of result ≡ answer (model_of rule store self.old) (calls.lock t.0 n.0) }
-        ensures leaves { model_of rule store self.new ≡ after (model_of rule store self.old) (calls.lock t.0 n.0) (answer_of result) }
+        ensures answers { answer_of result ≡ answer (model_of R.rule S.store self.old) (calls.lock t.0 n.0) }
+        ensures leaves { model_of R.rule S.store self.new ≡ after (model_of R.rule S.store self.old) (calls.lock t.0 n.0) (answer_of result) }
     {
         if let Some(cause) = self.lock_refusal(t, n) {
             return Answer::Refused(cause);
@@ -96,8 +96,8 @@ impl<R: LockRule, S: NodeStore> Session<R, S> {
 
     // Why t may not use n, to release it or to access it.
     pub(crate) fn use_refusal(&self, t: TransactionNumber, n: NodeNumber) -> Option<Refusal>
-        ensures refuses { result ≡ first_refusal (use_checks (model_of rule store self.now) t.0 n.0) }
-        ensures fits { result ≡ None → (t.0 < 32) × (n.0 < count (model_of rule store self.now)) }
+        ensures refuses { result ≡ first_refusal (use_checks (model_of R.rule S.store self.now) t.0 n.0) }
+        ensures fits { result ≡ None → (t.0 < 32) × (n.0 < count (model_of R.rule S.store self.now)) }
     {
         if t.0 >= self.begun_count() {
             return Some(Refusal::NotBegun);
@@ -125,8 +125,8 @@ impl<R: LockRule, S: NodeStore> Session<R, S> {
 
     // Gives n back, which t holds.
     pub fn release(&mut self, t: TransactionNumber, n: NodeNumber) -> Answer
-        ensures answers { answer_of result ≡ answer (model_of rule store self.old) (calls.release t.0 n.0) }
-        ensures leaves { model_of rule store self.new ≡ after (model_of rule store self.old) (calls.release t.0 n.0) (answer_of result) }
+        ensures answers { answer_of result ≡ answer (model_of R.rule S.store self.old) (calls.release t.0 n.0) }
+        ensures leaves { model_of R.rule S.store self.new ≡ after (model_of R.rule S.store self.old) (calls.release t.0 n.0) (answer_of result) }
     {
         if let Some(cause) = self.use_refusal(t, n) {
             return Answer::Refused(cause);
@@ -139,8 +139,8 @@ impl<R: LockRule, S: NodeStore> Session<R, S> {
 
     // Has t wait no more.
     pub fn withdraw(&mut self, t: TransactionNumber) -> Answer
-        ensures answers { answer_of result ≡ answer (model_of rule store self.old) (calls.withdraw t.0) }
-        ensures leaves { model_of rule store self.new ≡ after (model_of rule store self.old) (calls.withdraw t.0) (answer_of result) }
+        ensures answers { answer_of result ≡ answer (model_of R.rule S.store self.old) (calls.withdraw t.0) }
+        ensures leaves { model_of R.rule S.store self.new ≡ after (model_of R.rule S.store self.old) (calls.withdraw t.0) (answer_of result) }
     {
         if t.0 >= self.begun_count() {
             return Answer::Refused(Refusal::NotBegun);
@@ -153,8 +153,8 @@ impl<R: LockRule, S: NodeStore> Session<R, S> {
 
     // Ends t, and gives back all that it holds.
     pub fn end(&mut self, t: TransactionNumber) -> Answer
-        ensures answers { answer_of result ≡ answer (model_of rule store self.old) (calls.end t.0) }
-        ensures leaves { model_of rule store self.new ≡ after (model_of rule store self.old) (calls.end t.0) (answer_of result) }
+        ensures answers { answer_of result ≡ answer (model_of R.rule S.store self.old) (calls.end t.0) }
+        ensures leaves { model_of R.rule S.store self.new ≡ after (model_of R.rule S.store self.old) (calls.end t.0) (answer_of result) }
     {
         if t.0 >= self.begun_count() {
             return Answer::Refused(Refusal::NotBegun);

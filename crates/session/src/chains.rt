@@ -43,8 +43,8 @@ impl Graph for Predecessors {
 impl<R: LockRule, S: NodeStore> Session<R, S> {
     // All transactions to which a chain of predecessors leads from t.
     pub fn before(&self, t: TransactionNumber) -> TransactionSet
-        ensures chains { AllBefore (model_of rule store self.now) t.0 result.mask }
-        ensures unbegun { begun_count (model_of rule store self.now) ≤ t.0 → result.mask ≡ 0 }
+        ensures chains { AllBefore (model_of R.rule S.store self.now) t.0 result.mask }
+        ensures unbegun { begun_count (model_of R.rule S.store self.now) ≤ t.0 → result.mask ≡ 0 }
     {
         let all = self.predecessors();
         let found = reach(&all, all.mask(t.0) as u64);

@@ -15,14 +15,14 @@ use stores::store::NodeStore;
 impl<R: LockRule, S: NodeStore> Session<R, S> {
     // Whether t is not placed yet, and all its predecessors are.
     fn ready(&self, placed: TransactionSet, t: TransactionNumber) -> bool
-        ensures { result ≡ ready (predecessors (model_of rule store self.now)) placed.mask t.0 }
+        ensures { result ≡ ready (predecessors (model_of R.rule S.store self.now)) placed.mask t.0 }
     {
         !placed.contains(t) & self.predecessors_of(t).is_subset(placed)
     }
 
     // The lowest transaction that is ready.
     fn lowest(&self, placed: TransactionSet) -> Option<u8>
-        ensures { result ≡ lowest (ready (predecessors (model_of rule store self.now)) placed.mask) (begun_count (model_of rule store self.now)) }
+        ensures { result ≡ lowest (ready (predecessors (model_of R.rule S.store self.now)) placed.mask) (begun_count (model_of R.rule S.store self.now)) }
     {
         let n = self.begun_count();
         for u in 0..n {
@@ -35,8 +35,8 @@ impl<R: LockRule, S: NodeStore> Session<R, S> {
 
     // Fills in the begun transactions in their serial order, a byte for each, and answers how many they are.
     pub fn order(&self, buffer: &mut [u8]) -> Result<u8, Refusal>
-        ensures answers { result ≡ answer_unless (short (length buffer.old) (begun_count (model_of rule store self.now))) (length (serial_order (model_of rule store self.now))) }
-        ensures leaves { buffer.new ≡ leave_unless (short (length buffer.old) (begun_count (model_of rule store self.now))) buffer.old (filled (serial_order (model_of rule store self.now)) buffer.old) }
+        ensures answers { result ≡ answer_unless (short (length buffer.old) (begun_count (model_of R.rule S.store self.now))) (length (serial_order (model_of R.rule S.store self.now))) }
+        ensures leaves { buffer.new ≡ leave_unless (short (length buffer.old) (begun_count (model_of R.rule S.store self.now))) buffer.old (filled (serial_order (model_of R.rule S.store self.now)) buffer.old) }
     {
         let n = self.begun_count();
         if buffer.len() < n as usize {

@@ -17,7 +17,7 @@ use stores::store::NodeStore;
 impl<R: LockRule, S: NodeStore> Session<R, S> {
     // Who holds n.
     pub fn holder(&self, n: NodeNumber) -> Result<Option<TransactionNumber>, Refusal>
-        ensures { result ≡ holder_report (model_of rule store self.now) n.0 }
+        ensures { result ≡ holder_report (model_of R.rule S.store self.now) n.0 }
     {
         if n.0 < self.count() {
             Ok(self.holders[n.0 as usize])
@@ -28,7 +28,7 @@ impl<R: LockRule, S: NodeStore> Session<R, S> {
 
     // The holder of the node that is waited for, if it is held.
     fn waited_for(&self, phase: Phase) -> TransactionSet
-        ensures { result.mask ≡ waited_for (model_of rule store self.now) phase }
+        ensures { result.mask ≡ waited_for (model_of R.rule S.store self.now) phase }
     {
         match phase {
             Phase::Waiting(n) => holder_set(holder_at(&self.holders, n)),
@@ -38,7 +38,7 @@ impl<R: LockRule, S: NodeStore> Session<R, S> {
 
     // Those that must come before t: they locked one of its nodes first, or hold the node that it waits for.
     pub(crate) fn predecessors_of(&self, t: TransactionNumber) -> TransactionSet
-        ensures { result.mask ≡ predecessors (model_of rule store self.now) t.0 }
+        ensures { result.mask ≡ predecessors (model_of R.rule S.store self.now) t.0 }
     {
         if t.0 < self.begun_count() {
             let i = t.0 as usize;
@@ -50,7 +50,7 @@ impl<R: LockRule, S: NodeStore> Session<R, S> {
 
     // The predecessors of every transaction.
     pub fn predecessors(&self) -> Predecessors
-        ensures reports { (t : ℕ) → reported result t ≡ predecessors (model_of rule store self.now) t }
+        ensures reports { (t : ℕ) → reported result t ≡ predecessors (model_of R.rule S.store self.now) t }
         ensures long { length result.of ≡ 32 }
         ensures small { (t : ℕ) → reported result t < 2 ^ 32 }
     {

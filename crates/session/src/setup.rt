@@ -14,10 +14,10 @@ use stores::store::NodeStore;
 impl<R: LockRule, S: NodeStore> Session<R, S> {
     // A session without transactions. Whatever is called from here on, it does what a serial replay would do.
     pub fn new(rule: R, store: S) -> Session<R, S>
-        ensures starts { model_of R.LockRule.rule S.NodeStore.store result ≡ start (R.LockRule.rule rule) (S.NodeStore.store store) }
-        ensures explained { AlwaysExplained (S.NodeStore.store store) (model_of R.LockRule.rule S.NodeStore.store result) }
-        ensures progresses { AlwaysProgresses (model_of R.LockRule.rule S.NodeStore.store result) }
-        ensures consistent { AlwaysConsistent (model_of R.LockRule.rule S.NodeStore.store result) }
+        ensures starts { model_of R.rule S.store result ≡ start (R.rule rule) (S.store store) }
+        ensures explained { AlwaysExplained (S.store store) (model_of R.rule S.store result) }
+        ensures progresses { AlwaysProgresses (model_of R.rule S.store result) }
+        ensures consistent { AlwaysConsistent (model_of R.rule S.store result) }
     {
         let blank = Record {
             phase: Phase::Open,
@@ -53,7 +53,7 @@ impl<R: LockRule, S: NodeStore> Session<R, S> {
 
     // How many nodes the session has: those that its rule and its store both know.
     pub(crate) fn count(&self) -> u8
-        ensures { result ≡ count (model_of rule store self.now) }
+        ensures { result ≡ count (model_of R.rule S.store self.now) }
     {
         let ruled = self.rule.count();
         let stored = self.store.count();
@@ -61,7 +61,7 @@ impl<R: LockRule, S: NodeStore> Session<R, S> {
     }
 
     pub(crate) fn begun_count(&self) -> u8
-        ensures { result ≡ begun_count (model_of rule store self.now) }
+        ensures { result ≡ begun_count (model_of R.rule S.store self.now) }
     {
         if self.begun < 32 { self.begun } else { 32 }
     }

@@ -13,7 +13,7 @@ use stores::store::NodeStore;
 impl<R: LockRule, S: NodeStore> Session<R, S> {
     // How many transactions wait.
     fn waiting_count(&self) -> u8
-        ensures { result ≡ waiting_count (model_of rule store self.now) }
+        ensures { result ≡ waiting_count (model_of R.rule S.store self.now) }
     {
         let mut count = 0;
         for t in 0..self.begun_count() {
@@ -28,8 +28,8 @@ impl<R: LockRule, S: NodeStore> Session<R, S> {
 
     // Fills in each waiting transaction and its node, two bytes for each, and answers how many they are.
     pub fn waiting(&self, buffer: &mut [u8]) -> Result<u8, Refusal>
-        ensures answers { result ≡ answer_unless (short (length buffer.old) (2 * waiting_count (model_of rule store self.now))) (waiting_count (model_of rule store self.now)) }
-        ensures leaves { WaitingFilled (short (length buffer.old) (2 * waiting_count (model_of rule store self.now))) (model_of rule store self.now) buffer.old buffer.new }
+        ensures answers { result ≡ answer_unless (short (length buffer.old) (2 * waiting_count (model_of R.rule S.store self.now))) (waiting_count (model_of R.rule S.store self.now)) }
+        ensures leaves { WaitingFilled (short (length buffer.old) (2 * waiting_count (model_of R.rule S.store self.now))) (model_of R.rule S.store self.now) buffer.old buffer.new }
     {
         let count = self.waiting_count();
         if buffer.len() < 2 * count as usize {

@@ -25,10 +25,10 @@ impl Ticket {
     // Begins a transaction.
     pub fn open<R: LockRule, S: NodeStore>(session: &mut Session<R, S>) -> Result<Ticket, Refusal>
         ensures answers { elim result [
-          | Ok ticket ↦ answer (model_of rule store session.old) calls.begin ≡ calls.done (pos ticket.number.0)
-          | Err refusal ↦ answer (model_of rule store session.old) calls.begin ≡ calls.refused refusal
+          | Ok ticket ↦ answer (model_of R.rule S.store session.old) calls.begin ≡ calls.done (pos ticket.number.0)
+          | Err refusal ↦ answer (model_of R.rule S.store session.old) calls.begin ≡ calls.refused refusal
         ] }
-        ensures leaves { model_of rule store session.new ≡ after (model_of rule store session.old) calls.begin (answer (model_of rule store session.old) calls.begin) }
+        ensures leaves { model_of R.rule S.store session.new ≡ after (model_of R.rule S.store session.old) calls.begin (answer (model_of R.rule S.store session.old) calls.begin) }
     {
         match session.begin() {
             Answer::Done(t) => Ok(Ticket {
@@ -51,8 +51,8 @@ impl Ticket {
         session: &mut Session<R, S>,
         n: NodeNumber,
     ) -> Answer
-        ensures answers { answer_of result ≡ answer (model_of rule store session.old) (calls.lock self.now.number.0 n.0) }
-        ensures leaves { model_of rule store session.new ≡ after (model_of rule store session.old) (calls.lock self.now.number.0 n.0) (answer_of result) }
+        ensures answers { answer_of result ≡ answer (model_of R.rule S.store session.old) (calls.lock self.now.number.0 n.0) }
+        ensures leaves { model_of R.rule S.store session.new ≡ after (model_of R.rule S.store session.old) (calls.lock self.now.number.0 n.0) (answer_of result) }
     {
         session.lock(self.number, n)
     }
@@ -62,8 +62,8 @@ impl Ticket {
         session: &mut Session<R, S>,
         n: NodeNumber,
     ) -> Answer
-        ensures answers { answer_of result ≡ answer (model_of rule store session.old) (calls.release self.now.number.0 n.0) }
-        ensures leaves { model_of rule store session.new ≡ after (model_of rule store session.old) (calls.release self.now.number.0 n.0) (answer_of result) }
+        ensures answers { answer_of result ≡ answer (model_of R.rule S.store session.old) (calls.release self.now.number.0 n.0) }
+        ensures leaves { model_of R.rule S.store session.new ≡ after (model_of R.rule S.store session.old) (calls.release self.now.number.0 n.0) (answer_of result) }
     {
         session.release(self.number, n)
     }
@@ -73,8 +73,8 @@ impl Ticket {
         session: &mut Session<R, S>,
         n: NodeNumber,
     ) -> Answer
-        ensures answers { answer_of result ≡ answer (model_of rule store session.old) (calls.access self.now.number.0 n.0 calls.read) }
-        ensures leaves { model_of rule store session.new ≡ after (model_of rule store session.old) (calls.access self.now.number.0 n.0 calls.read) (answer_of result) }
+        ensures answers { answer_of result ≡ answer (model_of R.rule S.store session.old) (calls.access self.now.number.0 n.0 calls.read) }
+        ensures leaves { model_of R.rule S.store session.new ≡ after (model_of R.rule S.store session.old) (calls.access self.now.number.0 n.0 calls.read) (answer_of result) }
     {
         session.read(self.number, n)
     }
@@ -85,8 +85,8 @@ impl Ticket {
         n: NodeNumber,
         v: i32,
     ) -> Answer
-        ensures answers { answer_of result ≡ answer (model_of rule store session.old) (calls.access self.now.number.0 n.0 (calls.write v)) }
-        ensures leaves { model_of rule store session.new ≡ after (model_of rule store session.old) (calls.access self.now.number.0 n.0 (calls.write v)) (answer_of result) }
+        ensures answers { answer_of result ≡ answer (model_of R.rule S.store session.old) (calls.access self.now.number.0 n.0 (calls.write v)) }
+        ensures leaves { model_of R.rule S.store session.new ≡ after (model_of R.rule S.store session.old) (calls.access self.now.number.0 n.0 (calls.write v)) (answer_of result) }
     {
         session.write(self.number, n, v)
     }
@@ -97,23 +97,23 @@ impl Ticket {
         n: NodeNumber,
         d: i32,
     ) -> Answer
-        ensures answers { answer_of result ≡ answer (model_of rule store session.old) (calls.access self.now.number.0 n.0 (calls.adjust d)) }
-        ensures leaves { model_of rule store session.new ≡ after (model_of rule store session.old) (calls.access self.now.number.0 n.0 (calls.adjust d)) (answer_of result) }
+        ensures answers { answer_of result ≡ answer (model_of R.rule S.store session.old) (calls.access self.now.number.0 n.0 (calls.adjust d)) }
+        ensures leaves { model_of R.rule S.store session.new ≡ after (model_of R.rule S.store session.old) (calls.access self.now.number.0 n.0 (calls.adjust d)) (answer_of result) }
     {
         session.adjust(self.number, n, d)
     }
 
     pub fn withdraw<R: LockRule, S: NodeStore>(&self, session: &mut Session<R, S>) -> Answer
-        ensures answers { answer_of result ≡ answer (model_of rule store session.old) (calls.withdraw self.now.number.0) }
-        ensures leaves { model_of rule store session.new ≡ after (model_of rule store session.old) (calls.withdraw self.now.number.0) (answer_of result) }
+        ensures answers { answer_of result ≡ answer (model_of R.rule S.store session.old) (calls.withdraw self.now.number.0) }
+        ensures leaves { model_of R.rule S.store session.new ≡ after (model_of R.rule S.store session.old) (calls.withdraw self.now.number.0) (answer_of result) }
     {
         session.withdraw(self.number)
     }
 
     // Withdraws the transaction where it waits, and ends it. The ticket is spent, whatever the answer.
     pub fn close<R: LockRule, S: NodeStore>(self, session: &mut Session<R, S>) -> Answer
-        ensures answers { answer_of result ≡ close_answer (model_of rule store session.old) self.number.0 }
-        ensures leaves { model_of rule store session.new ≡ closed (model_of rule store session.old) self.number.0 }
+        ensures answers { answer_of result ≡ close_answer (model_of R.rule S.store session.old) self.number.0 }
+        ensures leaves { model_of R.rule S.store session.new ≡ closed (model_of R.rule S.store session.old) self.number.0 }
     {
         let Ticket { number } = self;
         // Refused, and without effect, where it does not wait.
