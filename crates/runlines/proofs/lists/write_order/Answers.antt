@@ -4,22 +4,22 @@ use Rattle.session.specs.Of.{model_of}
 use Rattle.runlines.proofs.Ordered.{order_within, order_is}
 use Rattle.runlines.proofs.lists.write_order.Goals as goal
 
-pub slice-bounds-order-end-2 : goal.slice-bounds-order-end-2
-slice-bounds-order-end-2 g c =
+pub slice_bounds-order-end-2 : goal.slice_bounds-order-end-2
+slice_bounds-order-end-2 g c =
     let m = model_of g.R.LockRule.rule g.S.NodeStore.store c.args.session.now in
-    order_within m c.order.result c.in-ok-n.n c.order.new.buffer c.in-ok-n.was c.order.ensures.answers c.order.ensures.leaves
+    order_within m c.order.result c.in_ok-n.n c.order.new.buffer c.in_ok-n.was c.order.ensures.answers c.order.ensures.leaves
 
-pub slice-bounds-write-transactions-end : goal.slice-bounds-write-transactions-end
-slice-bounds-write-transactions-end g c =
+pub slice_bounds-write_transactions-end : goal.slice_bounds-write_transactions-end
+slice_bounds-write_transactions-end g c =
     let m = model_of g.R.LockRule.rule g.S.NodeStore.store c.args.session.now in
     sym (length-take-le _ c.order.new.buffer
-    (order_within m c.order.result c.in-ok-n.n c.order.new.buffer c.in-ok-n.was c.order.ensures.answers c.order.ensures.leaves))
+    (order_within m c.order.result c.in_ok-n.n c.order.new.buffer c.in_ok-n.was c.order.ensures.answers c.order.ensures.leaves))
 
-pub write-transactions-requires : goal.write-transactions-requires
-write-transactions-requires g c = simp length-take (omega arith)
+pub write_transactions-requires : goal.write_transactions-requires
+write_transactions-requires g c = simp length-take (omega arith)
 
 pub returns : goal.returns
 returns g c =
     let m = model_of g.R.LockRule.rule g.S.NodeStore.store c.args.session.now in
-    let e = order_is m c.order.result c.in-ok-n.n c.order.new.buffer c.in-ok-n.was c.order.ensures.answers c.order.ensures.leaves in
+    let e = order_is m c.order.result c.in_ok-n.n c.order.new.buffer c.in_ok-n.was c.order.ensures.answers c.order.ensures.leaves in
     search rules

@@ -6,7 +6,7 @@ pub returns-in-End : goal.returns-in-End
 returns-in-End c = first_at c.args.steps.now c.loop-i.i c.loop-i.invariant c.in-End.is
 
 pub loop-i-preserved : goal.loop-i-preserved
-loop-i-preserved c = not_yet c.args.steps.now c.loop-i.i c.loop-i.invariant c.in-default.not-End
+loop-i-preserved c = not_yet c.args.steps.now c.loop-i.i c.loop-i.invariant c.in_default.not-End
 
 pub returns : goal.returns
 returns c = no_first c.args.steps.now c.loop-i.i c.loop-i.invariant (omega arith)

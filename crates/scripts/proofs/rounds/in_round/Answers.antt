@@ -12,6 +12,6 @@ returns-in-Some c = record {
 pub returns-in-None : goal.returns-in-None
 returns-in-None c = record {
   found = λ es.
-      round_again (map (script_at es) (take c.args.count c.args.cursors.now)) c.args.place _ (c.in-None.ensures.found es) (c.from-on-in-None.ensures.found es);
-  below = c.from-on-in-None.ensures.below;
+      round_again (map (script_at es) (take c.args.count c.args.cursors.now)) c.args.place _ (c.in-None.ensures.found es) (c.from_on-in-None.ensures.found es);
+  below = c.from_on-in-None.ensures.below;
 }

@@ -7,36 +7,36 @@ use Rattle.scripts_model.proofs.Starting.{many_steps, many_turns, beyond, within
 use Rattle.scripts.proofs.Admitting.{count_is}
 use Rattle.scripts.proofs.start.admit.Goals as goal
 
-pub overflow-sub-steps : goal.overflow-sub-steps
-overflow-sub-steps c = omega (arith, c.before-first.ensures, all_counted c.args.steps.now)
+pub overflow_sub-steps : goal.overflow_sub-steps
+overflow_sub-steps c = omega (arith, c.before_first.ensures, all_counted c.args.steps.now)
 
-pub returns-then-steps-before-first-gt-MOST-STEPS : goal.returns-then-steps-before-first-gt-MOST-STEPS
-returns-then-steps-before-first-gt-MOST-STEPS c =
+pub returns-then-steps-before_first-gt-MOST_STEPS : goal.returns-then-steps-before_first-gt-MOST_STEPS
+returns-then-steps-before_first-gt-MOST_STEPS c =
     let es = c.args.steps.now in
     let n = count_is es c.in-Some.found c.in-Some.ensures in
-    many_steps c.args.allowance (scripts_of es) (numbers c.args.turns.now) c.if-allowance-gt-MOST-TURNS.false
+    many_steps c.args.allowance (scripts_of es) (numbers c.args.turns.now) c.if-allowance-gt-MOST_TURNS.false
     (omega (arith, n, c.in-Some.ensures.few))
-    (omega (arith, c.before-first.ensures, all_counted es, c.if-steps-before-first-gt-MOST-STEPS.true))
+    (omega (arith, c.before_first.ensures, all_counted es, c.if-steps-before_first-gt-MOST_STEPS.true))
 
-pub returns-then-turns-gt-MOST-LISTED : goal.returns-then-turns-gt-MOST-LISTED
-returns-then-turns-gt-MOST-LISTED c =
+pub returns-then-turns-gt-MOST_LISTED : goal.returns-then-turns-gt-MOST_LISTED
+returns-then-turns-gt-MOST_LISTED c =
     let es = c.args.steps.now in
     let n = count_is es c.in-Some.found c.in-Some.ensures in
-    many_turns c.args.allowance (scripts_of es) (numbers c.args.turns.now) c.if-allowance-gt-MOST-TURNS.false
+    many_turns c.args.allowance (scripts_of es) (numbers c.args.turns.now) c.if-allowance-gt-MOST_TURNS.false
     (omega (arith, n, c.in-Some.ensures.few))
-    (omega (arith, c.before-first.ensures, all_counted es, c.if-steps-before-first-gt-MOST-STEPS.false))
-    (omega (arith, length-map c.args.turns.now (λ t. t.0), c.if-turns-gt-MOST-LISTED.true))
+    (omega (arith, c.before_first.ensures, all_counted es, c.if-steps-before_first-gt-MOST_STEPS.false))
+    (omega (arith, length-map c.args.turns.now (λ t. t.0), c.if-turns-gt-MOST_LISTED.true))
 
-pub returns-then-not-all-below : goal.returns-then-not-all-below
-returns-then-not-all-below c =
+pub returns-then-not-all_below : goal.returns-then-not-all_below
+returns-then-not-all_below c =
     let es = c.args.steps.now in
     let list = numbers c.args.turns.now in
     let n = count_is es c.in-Some.found c.in-Some.ensures in
-    beyond c.args.allowance (scripts_of es) list c.if-allowance-gt-MOST-TURNS.false
+    beyond c.args.allowance (scripts_of es) list c.if-allowance-gt-MOST_TURNS.false
     (omega (arith, n, c.in-Some.ensures.few))
-    (omega (arith, c.before-first.ensures, all_counted es, c.if-steps-before-first-gt-MOST-STEPS.false))
-    (omega (arith, length-map c.args.turns.now (λ t. t.0), c.if-turns-gt-MOST-LISTED.false))
-    (ap (λ k. all_below k list) (sym n) ∙ sym c.if-not-all-below.ensures)
+    (omega (arith, c.before_first.ensures, all_counted es, c.if-steps-before_first-gt-MOST_STEPS.false))
+    (omega (arith, length-map c.args.turns.now (λ t. t.0), c.if-turns-gt-MOST_LISTED.false))
+    (ap (λ k. all_below k list) (sym n) ∙ sym c.if-not-all_below.ensures)
 
 pub returns : goal.returns
 returns c =
@@ -44,10 +44,10 @@ returns c =
     let list = numbers c.args.turns.now in
     let x = c.in-Some.ensures in
     let n = count_is es c.in-Some.found x in (
-      within_limits c.args.allowance (scripts_of es) list c.if-allowance-gt-MOST-TURNS.false
+      within_limits c.args.allowance (scripts_of es) list c.if-allowance-gt-MOST_TURNS.false
           (omega (arith, n, x.few))
-          (omega (arith, c.before-first.ensures, all_counted es, c.if-steps-before-first-gt-MOST-STEPS.false))
-          (omega (arith, length-map c.args.turns.now (λ t. t.0), c.if-turns-gt-MOST-LISTED.false))
-          (ap (λ k. all_below k list) (sym n) ∙ sym c.if-not-all-below.ensures),
+          (omega (arith, c.before_first.ensures, all_counted es, c.if-steps-before_first-gt-MOST_STEPS.false))
+          (omega (arith, length-map c.args.turns.now (λ t. t.0), c.if-turns-gt-MOST_LISTED.false))
+          (ap (λ k. all_below k list) (sym n) ∙ sym c.if-not-all_below.ensures),
       x,
     )

@@ -19,10 +19,10 @@ plain (negsuc n) h = let e : ◌≡◌ {A = ℕ} 0 1 = cc in absurd (omega arith
 pub returns : goal.returns
 returns c =
     let z = c.args.z in
-    let n = c.unsigned-abs.result in
+    let n = c.unsigned_abs.result in
     let new = c.number.new.self in
     let back : to_z w32 (of_z w32 z) ≡ z = to_z-of_z w32 z c.ranges.z in
-    let is : n ≡ nat_abs z = c.unsigned-abs.ensures.value ∙ ap nat_abs back in
+    let is : n ≡ nat_abs z = c.unsigned_abs.ensures.value ∙ ap nat_abs back in
     let sign = ap (λ x. lt_z x (pos 0)) (sym back) in
     elim c.if-z-lt0.branch [
       | then-z-lt0 w ↦ subst (Added _ new) (ap (λ m. 45 ∷ decimal m) is ∙ minus z (sign ∙ w.if-z-lt0.true))

@@ -21,7 +21,7 @@ returns g c =
     let r' = c.advance.new.self in
     let x = c.advance.ensures in
     record {
-      totals = c.totals-at.ensures r'.steps.now;
-      leaves = stops (of r) (of r') r.allowance x.leaves c.in-default.ensures.turns ∙ c.loop.invariant.0;
+      totals = c.totals_at.ensures r'.steps.now;
+      leaves = stops (of r) (of r') r.allowance x.leaves c.in_default.ensures.turns ∙ c.loop.invariant.0;
       keeps = x.keeps ∙ c.loop.invariant.1;
     }

@@ -15,6 +15,6 @@ returns-in-Ok g c =
     let found = c.in-Ok.found in
     let x = c.in-Ok.ensures in (
       started rule store (scripts_of es) list c.args.allowance _ (omega (arith, count_is es found x.1, x.1.few)) x.0
-          (first_is rule store es found list (model_of g.R.LockRule.rule g.S.NodeStore.store c.with-begun.result) x.1 c.with-begun.ensures),
+          (first_is rule store es found list (model_of g.R.LockRule.rule g.S.NodeStore.store c.with_begun.result) x.1 c.with_begun.ensures),
       refl,
     )

@@ -27,6 +27,6 @@ returns-in-At g c =
     let l : c.args.t.0 < length r.cursors = omega (arith, r.long, r.few, c.if-t-self.false) in
     let x = c.perform-answer in
     let (a, b) = array_turn r.steps.now (of r.session) r.cursors r.count c.args.t.0 c.if-t-self.false l
-    (of x.new.session) c.in-At.at c.step-at-step.result (answer_of x.result) c.moved.result
-    c.in-At.is c.step-at-step.ensures.is x.ensures.answers x.ensures.leaves c.moved.ensures in
+    (of x.new.session) c.in-At.at c.step_at-step.result (answer_of x.result) c.moved.result
+    c.in-At.is c.step_at-step.ensures.is x.ensures.answers x.ensures.leaves c.moved.ensures in
     record { answers = a; leaves = alone (run_of g.R.LockRule.rule g.S.NodeStore.store r) _ c.args.t.0 b; keeps = refl }

@@ -1,4 +1,4 @@
 use Rattle.scripts.proofs.state.ScriptRun.totals.Goals as goal
 
 pub returns : goal.returns
-returns g c = c.totals-at.ensures c.args.self.now.steps.now
+returns g c = c.totals_at.ensures c.args.self.now.steps.now
