@@ -1,15 +1,13 @@
 ghost use Rattle.std.specs.Prelude.{◌≡◌, ◌≤◌, length};
 
 use basics::transaction::TransactionNumber;
-use rules::rule::LockRule;
 use scripts_model::cursor::Cursor;
 use scripts_model::step::Step;
 use session::state::Session;
-use stores::store::NodeStore;
 
 // A session, and how far each of its scripts is. Script t is the transaction t.
 #[derive(Drop)]
-pub struct ScriptRun<'s, R: LockRule, S: NodeStore> {
+pub struct ScriptRun<'s, R, S> {
     pub(crate) session: Session<R, S>,
     pub(crate) steps: &'s [Step],
     pub(crate) turns: &'s [TransactionNumber],
