@@ -1,11 +1,9 @@
 use basics::transaction::{TransactionNumber, TransactionSet};
 use model::table::Record;
-use rules::rule::LockRule;
-use stores::store::NodeStore;
 
 // The tables of a session, with the rule that it asks and the store that it reads and writes.
 #[derive(Drop)]
-pub struct Session<R: LockRule, S: NodeStore> {
+pub struct Session<R, S> {
     pub(crate) rule: R,
     pub(crate) store: S,
     // How many transactions are begun: those below this number.
