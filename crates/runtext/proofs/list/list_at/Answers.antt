@@ -24,7 +24,7 @@ pub returns : goal.returns
 returns c =
     let line = c.args.line.bytes.now in
     let (count, limit, rest, few, within) = c.loop-n.invariant in
-    let (none, all) = front_none (pieces_from line c.loop-n.next) c.in-default.ensures in
+    let (none, all) = front_none (pieces_from line c.loop-n.next) c.in_default.ensures in
     record {
       begins = refl;
       count = omega (arith, count, ap length none);

@@ -8,13 +8,13 @@ use Rattle.runtext.proofs.Listings.{no_number, other_word, number_is, read_numbe
 use Rattle.runtext.proofs.Wording.{is_none}
 use Rattle.runtext.proofs.list.number_at.Goals as goal
 
-pub returns-in-default : goal.returns-in-default
-returns-in-default c = no_number (pieces_from c.args.line.bytes.now c.args.from) c.in-default.ensures
+pub returns-in_default : goal.returns-in_default
+returns-in_default c = no_number (pieces_from c.args.line.bytes.now c.args.from) c.in_default.ensures
 
-pub returns-in-default-word : goal.returns-in-default-word
-returns-in-default-word c =
+pub returns-in_default-word : goal.returns-in_default-word
+returns-in_default-word c =
     let found = c.in-Some.ensures in
-    ap first_number found.cuts.cut ∙ number_is (piece_at c.args.line.bytes.now c.args.from) _ found.says ∙ other_word c.in-Some.found.word c.in-default-word.not-Number
+    ap first_number found.cuts.cut ∙ number_is (piece_at c.args.line.bytes.now c.args.from) _ found.says ∙ other_word c.in-Some.found.word c.in_default-word.not-Number
 
 pub returns-in-Some-number : goal.returns-in-Some-number
 returns-in-Some-number c =

@@ -5,8 +5,8 @@ use Rattle.runtext.specs.Listing.{first_plain}
 use Rattle.runtext.proofs.Listings.{no_plain, plain_is, below_zero, from_zero, same_word}
 use Rattle.runtext.proofs.list.plain_at.Goals as goal
 
-pub returns-in-default : goal.returns-in-default
-returns-in-default c = no_plain (pieces_from c.args.line.bytes.now c.args.from) c.in-default.ensures
+pub returns-in_default : goal.returns-in_default
+returns-in_default c = no_plain (pieces_from c.args.line.bytes.now c.args.from) c.in_default.ensures
 
 pub returns-then-found-lt0 : goal.returns-then-found-lt0
 returns-then-found-lt0 c =

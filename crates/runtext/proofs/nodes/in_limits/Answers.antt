@@ -10,7 +10,7 @@ unfolding listed
 returns c = λ line a b.
     let form = c.args.form in
     let nodes = nodes_of c.args.table.now.plan in
-    ap₂ (λ (g k : ℕ). ltb g 256 && (ltb form.node k && (leb form.a.limit k && leb form.b.limit k))) c.count.ensures c.node-count-count.ensures
+    ap₂ (λ (g k : ℕ). ltb g 256 && (ltb form.node k && (leb form.a.limit k && leb form.b.limit k))) c.count.ensures c.node_count-count.ensures
     ∙ ap₂ (λ (x y : Bool). ltb (length (guards_of c.args.table.now)) 256 && (ltb form.node (length nodes) && (x && y)))
     (ap (λ m. leb m (length nodes)) a.limit ∙ sym (all_below_its_limit (length nodes) (listed line form.a)))
     (ap (λ m. leb m (length nodes)) b.limit ∙ sym (all_below_its_limit (length nodes) (listed line form.b)))

@@ -30,15 +30,15 @@ returns c =
     let s = c.args.setup.now in
     let ss = c.args.steps.now in
     let ts = c.args.turns.now in
-    let is = c.in-default.ensures in
+    let is = c.in_default.ensures in
     let first = c.new.ensures ss ts in
-    let r = c.read-lines.ensures in
+    let r = c.read_lines.ensures in
     let told = r.answers ∙ ap (λ (d : Description). (read_lines d 1 0 (pieces 10 text)).fault) first in
-    let left : Describes o.description c.read-lines.new.self ss c.read-lines.new.steps ts c.read-lines.new.turns
-    = subst (λ (d : Description). Describes (read_lines d 1 0 (pieces 10 text)).description c.read-lines.new.self ss c.read-lines.new.steps ts c.read-lines.new.turns) first r.leaves in
+    let left : Describes o.description c.read_lines.new.self ss c.read_lines.new.steps ts c.read_lines.new.turns
+    = subst (λ (d : Description). Describes (read_lines d 1 0 (pieces 10 text)).description c.read_lines.new.self ss c.read_lines.new.steps ts c.read_lines.new.turns) first r.leaves in
     record {
       answers = told ∙ ap (λ x. fault_unless x o) is;
-      leaves = subst (λ (x : Option Refusal). LeftBy x o s c.read-lines.new.self ss c.read-lines.new.steps ts c.read-lines.new.turns) is left;
+      leaves = subst (λ (x : Option Refusal). LeftBy x o s c.read_lines.new.self ss c.read_lines.new.steps ts c.read_lines.new.turns) is left;
       text = λ e. text_of_what_is_read text (sym told ∙ ap fault_of e) ∙ sym (ap written left.described);
       canonical = canonical;
     }

@@ -10,7 +10,7 @@ returns-then-from-line c = ap first_word (none_from c.args.line.bytes.now c.args
 pub returns-in-Some : goal.returns-in-Some
 returns-in-Some c =
     let line = c.args.line.bytes.now in
-    let end = c.piece-end-end in
+    let end = c.piece_end-end in
     let is = piece_is line c.args.from end.result end.ensures.is in
     let (says, formed, part) = c.in-Some.ensures in
     record {
@@ -24,6 +24,6 @@ returns-in-Some c =
 pub returns-in-None : goal.returns-in-None
 returns-in-None c =
     let line = c.args.line.bytes.now in
-    let end = c.piece-end-end in
+    let end = c.piece_end-end in
     let cuts = cuts_at line c.args.from end.result c.if-from-line.false end.ensures.is end.ensures.within in
     ap first_word cuts.cut ∙ ap word_of (sym (piece_is line c.args.from end.result end.ensures.is)) ∙ c.in-None.ensures

@@ -11,19 +11,19 @@ returns-in-Some c =
 pub returns-then-part-ne1 : goal.returns-then-part-ne1
 returns-then-part-ne1 c =
     let bs = c.args.part.bytes.now in
-    word_long bs (is_none bs (sym c.in-default.ensures.is)) c.if-part-ne1.true
+    word_long bs (is_none bs (sym c.in_default.ensures.is)) c.if-part-ne1.true
 
-pub returns-then-is-capital : goal.returns-then-is-capital
-returns-then-is-capital c =
+pub returns-then-is_capital : goal.returns-then-is_capital
+returns-then-is_capital c =
     let bs = c.args.part.bytes.now in
-    (word_letter bs (is_none bs (sym c.in-default.ensures.is)) c.if-part-ne1.false (sym c.if-is-capital.ensures), c.if-part-ne1.false, refl)
+    (word_letter bs (is_none bs (sym c.in_default.ensures.is)) c.if-part-ne1.false (sym c.if-is_capital.ensures), c.if-part-ne1.false, refl)
 
 pub returns-then-b-eq47 : goal.returns-then-b-eq47
 returns-then-b-eq47 c =
     let bs = c.args.part.bytes.now in
-    (word_slash bs (is_none bs (sym c.in-default.ensures.is)) c.if-part-ne1.false (sym c.if-is-capital.ensures) c.if-b-eq47.true, tt, refl)
+    (word_slash bs (is_none bs (sym c.in_default.ensures.is)) c.if-part-ne1.false (sym c.if-is_capital.ensures) c.if-b-eq47.true, tt, refl)
 
 pub returns : goal.returns
 returns c =
     let bs = c.args.part.bytes.now in
-    word_none bs (is_none bs (sym c.in-default.ensures.is)) c.if-part-ne1.false (sym c.if-is-capital.ensures) c.if-b-eq47.false
+    word_none bs (is_none bs (sym c.in_default.ensures.is)) c.if-part-ne1.false (sym c.if-is_capital.ensures) c.if-b-eq47.false

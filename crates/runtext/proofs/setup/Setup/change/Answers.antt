@@ -16,15 +16,15 @@ use Rattle.runtext.proofs.Listings.{same_word}
 use Rattle.runtext.proofs.Taking.{misplaced, judged, room_is}
 use Rattle.runtext.proofs.setup.Setup.change.Goals as goal
 
-pub returns-then-not-takes-steps : goal.returns-then-not-takes-steps
-returns-then-not-takes-steps c = record {
+pub returns-then-not-takes_steps : goal.returns-then-not-takes_steps
+returns-then-not-takes_steps c = record {
   small = tt;
   judged = λ ss ts l f good.
       let s = c.args.self.now in
       let n = node_number c.in-Some.form.node in
       let z = c.in-Some.form.number in
       misplaced (description_of s ss ts) (change_line f (pieces_from c.args.line.bytes.now c.args.from)) (step (f n z)) (sym (c.in-Some.ensures.says f))
-      (sym (c.takes-steps.ensures ss ts l (f n z)) ∙ c.if-not-takes-steps.true);
+      (sym (c.takes_steps.ensures ss ts l (f n z)) ∙ c.if-not-takes_steps.true);
 }
 
 -- the room for a step and its node, with what its number says
@@ -46,9 +46,9 @@ returns-then-self-form c = record {
       let n = node_number c.in-Some.form.node in
       let z = c.in-Some.form.number in
       let count = length (nodes_of s.table.plan) in
-      let past = ap (λ k. leb 1024 s.steps || leb k n.0) (sym c.node-count.ensures) ∙ c.if-self-form.true in
+      let past = ap (λ k. leb 1024 s.steps || leb k n.0) (sym c.node_count.ensures) ∙ c.if-self-form.true in
       judged (description_of s ss ts) (change_line f (pieces_from c.args.line.bytes.now c.args.from)) (step (f n z)) (Some LimitExceeded) (sym (c.in-Some.ensures.says f))
-      (sym (c.takes-steps.ensures ss ts l (f n z)) ∙ c.if-not-takes-steps.false)
+      (sym (c.takes_steps.ensures ss ts l (f n z)) ∙ c.if-not-takes_steps.false)
       (ap₂ (λ (a b : Bool). limit_unless (a && b)) (room_is s ss ts l) (good n z) ∙ ap limit_unless (limits (ltb s.steps 1024) (ltb n.0 count) (le_z c.args.low z && le_z z c.args.high) (past_either s.steps 1024 n.0 count past)));
 }
 
@@ -69,10 +69,10 @@ returns-then-form-low c = record {
       let count = length (nodes_of s.table.plan) in
       let low = c.args.low in
       let high = c.args.high in
-      let within = ap (λ k. leb 1024 s.steps || leb k n.0) (sym c.node-count.ensures) ∙ c.if-self-form.false in
+      let within = ap (λ k. leb 1024 s.steps || leb k n.0) (sym c.node_count.ensures) ∙ c.if-self-form.false in
       let out = tested low high z (to_z-of_z w32 low c.ranges.low) (to_z-of_z w32 high c.ranges.high) (same_word z c.in-Some.ensures.small) true c.if-form-low.true in
       judged (description_of s ss ts) (change_line f (pieces_from c.args.line.bytes.now c.args.from)) (step (f n z)) (Some LimitExceeded) (sym (c.in-Some.ensures.says f))
-      (sym (c.takes-steps.ensures ss ts l (f n z)) ∙ c.if-not-takes-steps.false)
+      (sym (c.takes_steps.ensures ss ts l (f n z)) ∙ c.if-not-takes_steps.false)
       (ap₂ (λ (a b : Bool). limit_unless (a && b)) (room_is s ss ts l) (good n z)
       ∙ ap limit_unless (all_true (ltb s.steps 1024) (ltb n.0 count) (le_z low z && le_z z high) (within_both s.steps 1024 n.0 count within) ∙ out));
 }
@@ -88,11 +88,11 @@ returns c = record {
       let low = c.args.low in
       let high = c.args.high in
       let same = same_word z c.in-Some.ensures.small in
-      let within = ap (λ k. leb 1024 s.steps || leb k n.0) (sym c.node-count.ensures) ∙ c.if-self-form.false in
+      let within = ap (λ k. leb 1024 s.steps || leb k n.0) (sym c.node_count.ensures) ∙ c.if-self-form.false in
       let inside = tested low high z (to_z-of_z w32 low c.ranges.low) (to_z-of_z w32 high c.ranges.high) same false c.if-form-low.false in
       subst⁻¹ (λ (x : ℤ). Judged s ss ts (change_line f (pieces_from c.args.line.bytes.now c.args.from)) (Ok (f n x))) same (
         sym (c.in-Some.ensures.says f),
-        sym (c.takes-steps.ensures ss ts l (f n z)) ∙ c.if-not-takes-steps.false,
+        sym (c.takes_steps.ensures ss ts l (f n z)) ∙ c.if-not-takes_steps.false,
         ap₂ (λ (a b : Bool). limit_unless (a && b)) (room_is s ss ts l) (good n z)
             ∙ ap limit_unless (all_true (ltb s.steps 1024) (ltb n.0 count) (le_z low z && le_z z high) (within_both s.steps 1024 n.0 count within) ∙ inside),
         leb-false 1024 s.steps (or_parts (leb 1024 s.steps) _ within).0,

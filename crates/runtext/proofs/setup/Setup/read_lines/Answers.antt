@@ -30,8 +30,8 @@ loop-end-preserved c =
     let (same, steps, turns, is, from, within, few) = at.invariant in
     let text = c.args.text.now in
     let d = description_of at.self at.steps at.turns in
-    let t = c.in-default.ensures in
-    let next = c.piece-end-end-in-loop-end.ensures in (
+    let t = c.in_default.ensures in
+    let next = c.piece_end-end-in-loop-end.ensures in (
       ap (λ x. read_lines x (at.line + 1) (at.end + 1) (pieces 10 (drop (at.end + 1) text))) t.leaves
           ∙ line_taken text at.at at.end is from c.loop-end-test.true d at.line t.answers ∙ same,
       kept_later at.self.steps _ _ at.steps _ t.more_steps t.kept_steps steps,
@@ -50,7 +50,7 @@ returns c =
     let d = description_of at.self at.steps at.turns in
     let told = sym same ∙ line_last text at.at at.end is from c.loop-end-test.false within d at.line in
     record {
-      answers = c.last-piece.ensures at.steps at.turns ∙ sym (ap (λ o. o.fault) told);
+      answers = c.last_piece.ensures at.steps at.turns ∙ sym (ap (λ o. o.fault) told);
       leaves = record {
         described = sym (ap (λ o. o.description) told ∙ last_description d at.line at.at _);
         kept_steps = steps;

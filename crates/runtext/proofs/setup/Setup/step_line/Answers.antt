@@ -10,8 +10,8 @@ use Rattle.runtext.proofs.setup.Setup.step_line.Goals as goal
 pub bounds-steps-self : goal.bounds-steps-self
 bounds-steps-self c = omega (arith, (c.in-Ok.ensures c.args.steps.now [] c.requires.room).3, c.requires.room)
 
-pub invariant-of-self : goal.invariant-of-self
-invariant-of-self c =
+pub invariant_of-self : goal.invariant_of-self
+invariant_of-self c =
     let s = c.args.self.now in
     let few = (c.in-Ok.ensures c.args.steps.now [] c.requires.room).3 in
     record {

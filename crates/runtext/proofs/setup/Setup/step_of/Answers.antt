@@ -19,11 +19,11 @@ at_form s ss ts ps r f k e j = subst⁻¹ (λ (x : StepForm). Judged s ss ts (st
 pub returns-in-Ok : goal.returns-in-Ok
 returns-in-Ok c = λ ss ts l. at_form c.args.self.now ss ts (pieces_from c.args.line.bytes.now c.args.from) (Ok (Lock c.in-Ok.n)) c.args.form form.Lock c.in-Lock.is (c.in-Ok.ensures ss ts l Lock (λ n. refl))
 
-pub returns-in-Ok-step-node : goal.returns-in-Ok-step-node
-returns-in-Ok-step-node c = λ ss ts l. at_form c.args.self.now ss ts (pieces_from c.args.line.bytes.now c.args.from) (Ok (Release c.in-Ok-step-node.n)) c.args.form form.Release c.in-Release.is (c.in-Ok-step-node.ensures ss ts l Release (λ n. refl))
+pub returns-in-Ok-step_node : goal.returns-in-Ok-step_node
+returns-in-Ok-step_node c = λ ss ts l. at_form c.args.self.now ss ts (pieces_from c.args.line.bytes.now c.args.from) (Ok (Release c.in-Ok-step_node.n)) c.args.form form.Release c.in-Release.is (c.in-Ok-step_node.ensures ss ts l Release (λ n. refl))
 
-pub returns-in-Ok-step-node-2 : goal.returns-in-Ok-step-node-2
-returns-in-Ok-step-node-2 c = λ ss ts l. at_form c.args.self.now ss ts (pieces_from c.args.line.bytes.now c.args.from) (Ok (Read c.in-Ok-step-node-2.n)) c.args.form form.Read c.in-Read.is (c.in-Ok-step-node-2.ensures ss ts l Read (λ n. refl))
+pub returns-in-Ok-step_node-2 : goal.returns-in-Ok-step_node-2
+returns-in-Ok-step_node-2 c = λ ss ts l. at_form c.args.self.now ss ts (pieces_from c.args.line.bytes.now c.args.from) (Ok (Read c.in-Ok-step_node-2.n)) c.args.form form.Read c.in-Read.is (c.in-Ok-step_node-2.ensures ss ts l Read (λ n. refl))
 
 pub returns-in-Ok-change : goal.returns-in-Ok-change
 returns-in-Ok-change c = λ ss ts l.

@@ -8,16 +8,16 @@ use Rattle.runtext.proofs.Letters.{whole_line, no_letter, other_first, by_letter
 use Rattle.runtext.proofs.Taking.{malformed, refused}
 use Rattle.runtext.proofs.setup.Setup.take_line.Goals as goal
 
-pub returns-in-default : goal.returns-in-default
-returns-in-default c =
+pub returns-in_default : goal.returns-in_default
+returns-in_default c =
     let s = c.args.self.now in
     let ss = c.args.steps.now in
     let ts = c.args.turns.now in
     let line = c.args.line.bytes.now in
-    refused s ss ts (line_of line) MalformedLine (malformed (description_of s ss ts) (line_of line) (whole_line line ∙ no_letter (pieces_from line 0) c.in-default.ensures))
+    refused s ss ts (line_of line) MalformedLine (malformed (description_of s ss ts) (line_of line) (whole_line line ∙ no_letter (pieces_from line 0) c.in_default.ensures))
 
-pub returns-in-default-word : goal.returns-in-default-word
-returns-in-default-word c =
+pub returns-in_default-word : goal.returns-in_default-word
+returns-in_default-word c =
     let s = c.args.self.now in
     let ss = c.args.steps.now in
     let ts = c.args.turns.now in
@@ -26,17 +26,17 @@ returns-in-default-word c =
     let rest = pieces_from line c.in-Some.found.next in
     refused s ss ts (line_of line) MalformedLine
     (malformed (description_of s ss ts) (line_of line)
-    (whole_line line ∙ ap line_of_pieces found.cuts.cut ∙ ap (λ o. by_first o rest) found.says ∙ other_first c.in-Some.found.word rest c.in-default-word.not-Letter))
+    (whole_line line ∙ ap line_of_pieces found.cuts.cut ∙ ap (λ o. by_first o rest) found.says ∙ other_first c.in-Some.found.word rest c.in_default-word.not-Letter))
 
-pub returns-in-default-form-of : goal.returns-in-default-form-of
-returns-in-default-form-of c =
+pub returns-in_default-form_of : goal.returns-in_default-form_of
+returns-in_default-form_of c =
     let s = c.args.self.now in
     let ss = c.args.steps.now in
     let ts = c.args.turns.now in
     let line = c.args.line.bytes.now in
     refused s ss ts (line_of line) MalformedLine
     (malformed (description_of s ss ts) (line_of line)
-    (by_letter c.args.line c.in-Some.found c.in-Letter.part c.in-Some.ensures c.in-Letter.is ∙ ap (λ o. said o (pieces_from line c.in-Some.found.next)) (sym c.in-default-form-of.ensures)))
+    (by_letter c.args.line c.in-Some.found c.in-Letter.part c.in-Some.ensures c.in-Letter.is ∙ ap (λ o. said o (pieces_from line c.in-Some.found.next)) (sym c.in_default-form_of.ensures)))
 
 pub returns-in-Rule : goal.returns-in-Rule
 returns-in-Rule c =
@@ -46,8 +46,8 @@ returns-in-Rule c =
     let rest = pieces_from line c.in-Some.found.next in
     at_line c.args.self.now _ ss _ ts _ (line_of line) _ _
     (by_letter c.args.line c.in-Some.found c.in-Letter.part c.in-Some.ensures c.in-Letter.is
-    ∙ ap (λ o. said o rest) (sym c.in-Some-form-of.ensures) ∙ ap (λ f. said (Some f) rest) c.in-Rule.is)
-    (c.rule-line.ensures ss ts)
+    ∙ ap (λ o. said o rest) (sym c.in-Some-form_of.ensures) ∙ ap (λ f. said (Some f) rest) c.in-Rule.is)
+    (c.rule_line.ensures ss ts)
 
 pub returns-in-Node : goal.returns-in-Node
 returns-in-Node c =
@@ -57,8 +57,8 @@ returns-in-Node c =
     let rest = pieces_from line c.in-Some.found.next in
     at_line c.args.self.now _ ss _ ts _ (line_of line) _ _
     (by_letter c.args.line c.in-Some.found c.in-Letter.part c.in-Some.ensures c.in-Letter.is
-    ∙ ap (λ o. said o rest) (sym c.in-Some-form-of.ensures) ∙ ap (λ f. said (Some f) rest) c.in-Node.is)
-    (c.node-line.ensures ss ts c.requires.steps)
+    ∙ ap (λ o. said o rest) (sym c.in-Some-form_of.ensures) ∙ ap (λ f. said (Some f) rest) c.in-Node.is)
+    (c.node_line.ensures ss ts c.requires.steps)
 
 pub returns-in-Guard : goal.returns-in-Guard
 returns-in-Guard c =
@@ -68,8 +68,8 @@ returns-in-Guard c =
     let rest = pieces_from line c.in-Some.found.next in
     at_line c.args.self.now _ ss _ ts _ (line_of line) _ _
     (by_letter c.args.line c.in-Some.found c.in-Letter.part c.in-Some.ensures c.in-Letter.is
-    ∙ ap (λ o. said o rest) (sym c.in-Some-form-of.ensures) ∙ ap (λ f. said (Some f) rest) c.in-Guard.is)
-    (c.guard-line.ensures ss ts c.requires.steps)
+    ∙ ap (λ o. said o rest) (sym c.in-Some-form_of.ensures) ∙ ap (λ f. said (Some f) rest) c.in-Guard.is)
+    (c.guard_line.ensures ss ts c.requires.steps)
 
 pub returns-in-Script : goal.returns-in-Script
 returns-in-Script c =
@@ -79,8 +79,8 @@ returns-in-Script c =
     let rest = pieces_from line c.in-Some.found.next in
     at_line c.args.self.now _ ss _ ts _ (line_of line) _ _
     (by_letter c.args.line c.in-Some.found c.in-Letter.part c.in-Some.ensures c.in-Letter.is
-    ∙ ap (λ o. said o rest) (sym c.in-Some-form-of.ensures) ∙ ap (λ f. said (Some f) rest) c.in-Script.is)
-    (c.script-line.ensures ts)
+    ∙ ap (λ o. said o rest) (sym c.in-Some-form_of.ensures) ∙ ap (λ f. said (Some f) rest) c.in-Script.is)
+    (c.script_line.ensures ts)
 
 pub returns-in-Step : goal.returns-in-Step
 returns-in-Step c =
@@ -90,8 +90,8 @@ returns-in-Step c =
     let rest = pieces_from line c.in-Some.found.next in
     at_line c.args.self.now _ ss _ ts _ (line_of line) _ _
     (by_letter c.args.line c.in-Some.found c.in-Letter.part c.in-Some.ensures c.in-Letter.is
-    ∙ ap (λ o. said o rest) (sym c.in-Some-form-of.ensures) ∙ ap (λ f. said (Some f) rest) c.in-Step.is)
-    (c.step-line.ensures ts)
+    ∙ ap (λ o. said o rest) (sym c.in-Some-form_of.ensures) ∙ ap (λ f. said (Some f) rest) c.in-Step.is)
+    (c.step_line.ensures ts)
 
 pub returns-in-Turns : goal.returns-in-Turns
 returns-in-Turns c =
@@ -101,5 +101,5 @@ returns-in-Turns c =
     let rest = pieces_from line c.in-Some.found.next in
     at_line c.args.self.now _ ss _ ts _ (line_of line) _ _
     (by_letter c.args.line c.in-Some.found c.in-Letter.part c.in-Some.ensures c.in-Letter.is
-    ∙ ap (λ o. said o rest) (sym c.in-Some-form-of.ensures) ∙ ap (λ f. said (Some f) rest) c.in-Turns.is)
-    (c.turns-line.ensures ss)
+    ∙ ap (λ o. said o rest) (sym c.in-Some-form_of.ensures) ∙ ap (λ f. said (Some f) rest) c.in-Turns.is)
+    (c.turns_line.ensures ss)

@@ -4,4 +4,4 @@ use Rattle.runtext.proofs.setup.Setup.takes_steps.Goals as goal
 
 pub returns : goal.returns
 returns c = λ ss ts l s.
-    ap₂ (λ (a b : Bool). not a && b) (sym (none_taken c.args.self.now.steps ss (omega arith))) (c.takes-scripts.ensures ss ts)
+    ap₂ (λ (a b : Bool). not a && b) (sym (none_taken c.args.self.now.steps ss (omega arith))) (c.takes_scripts.ensures ss ts)

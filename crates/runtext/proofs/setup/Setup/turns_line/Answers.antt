@@ -13,21 +13,21 @@ use Rattle.runtext.proofs.Listings.{counted}
 use Rattle.runtext.proofs.Taking.{malformed, misplaced, judged, refused, taken, no_turns, with_turns}
 use Rattle.runtext.proofs.setup.Setup.turns_line.Goals as goal
 
-pub returns-in-default : goal.returns-in-default
-returns-in-default c = λ ss.
+pub returns-in_default : goal.returns-in_default
+returns-in_default c = λ ss.
     let s = c.args.self.now in
     let ts = c.args.turns.now in
     let l = turns_line (pieces_from c.args.line.bytes.now c.args.from) in
-    refused s ss ts l MalformedLine (malformed (description_of s ss ts) l c.in-default.ensures)
+    refused s ss ts l MalformedLine (malformed (description_of s ss ts) l c.in_default.ensures)
 
-pub returns-then-not-takes-scripts : goal.returns-then-not-takes-scripts
-returns-then-not-takes-scripts c = λ ss.
+pub returns-then-not-takes_scripts : goal.returns-then-not-takes_scripts
+returns-then-not-takes_scripts c = λ ss.
     let s = c.args.self.now in
     let ts = c.args.turns.now in
     let l = turns_line (pieces_from c.args.line.bytes.now c.args.from) in
     let ns = listed c.args.line.bytes.now c.in-Some.list in
     refused s ss ts l MisplacedLine
-    (misplaced (description_of s ss ts) l (turns ns) c.in-Some.ensures.0 (sym (c.takes-scripts.ensures ss ts) ∙ c.if-not-takes-scripts.true))
+    (misplaced (description_of s ss ts) l (turns ns) c.in-Some.ensures.0 (sym (c.takes_scripts.ensures ss ts) ∙ c.if-not-takes_scripts.true))
 
 pub returns-then-list-self : goal.returns-then-list-self
 returns-then-list-self c = λ ss.
@@ -39,7 +39,7 @@ returns-then-list-self c = λ ss.
     let ns = listed line list in
     let is = c.in-Some.ensures in
     refused s ss ts l LimitExceeded
-    (judged (description_of s ss ts) l (turns ns) (Some LimitExceeded) is.0 (sym (c.takes-scripts.ensures ss ts) ∙ c.if-not-takes-scripts.false)
+    (judged (description_of s ss ts) l (turns ns) (Some LimitExceeded) is.0 (sym (c.takes_scripts.ensures ss ts) ∙ c.if-not-takes_scripts.false)
     (turns_past s.scripts ns (counted line list is.1 (λ n a. ltb 4096 n || ltb s.scripts a) ∙ c.if-list-self.true)))
 
 pub returns : goal.returns
@@ -57,7 +57,7 @@ returns c = λ ss.
     let few = ltb-false 4096 list.count (or_parts (ltb 4096 list.count) _ within).0 in
     let count : n ≡ length ns = omega (arith, c.fill-count.ensures.count, is.1.count, few, c.requires.room) in
     let (front, rest) = filled_whole transaction ns ts c.fill-count.new.out n count c.fill-count.ensures.filled in
-    let here = sym (c.takes-scripts.ensures ss ts) ∙ c.if-not-takes-scripts.false in
+    let here = sym (c.takes_scripts.ensures ss ts) ∙ c.if-not-takes_scripts.false in
     let none = no_turns s.turns ts (not-true (is_some (turns_in s.turns ts)) (and_parts (not (is_empty (nodes_of s.table.plan))) _ here).1) in
     taken s _ ss ss ts _ l
     (judged (description_of s ss ts) l (turns ns) None is.0 here (turns_within s.scripts ns (counted line list is.1 (λ m a. ltb 4096 m || ltb s.scripts a) ∙ within))
