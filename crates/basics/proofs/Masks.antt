@@ -1,5 +1,5 @@
 -- Laws of masks as sets, over any width.
-use Rattle.std.proofs.Common.{◌≡◌, ℕ, zero, suc, ◌+◌, ◌-◌, ◌*◌, ◌/◌, ◌%◌, ◌^◌, ◌<◌, ◌≤◌, min, max, Bool, true, false, cond, not, ◌&&◌, ◌||◌, eqb, ltb, leb, ◌⊎◌, ◌↔◌, sym, refl, ap, ◌∙◌, inl, inr, mul_assoc, pow-suc, div-one, one-add, arith, pow_pos, pow_mono, pow-add, shr-shr}
+use Rattle.std.proofs.Common.{◌≡◌, ℕ, zero, suc, ◌+◌, ◌-◌, ◌*◌, ◌/◌, ◌%◌, ◌^◌, ◌<◌, ◌≤◌, min, max, Bool, true, false, not, ◌&&◌, ◌||◌, eqb, ltb, leb, ◌⊎◌, ◌↔◌, sym, refl, ap, ◌∙◌, inl, inr, mul_assoc, pow-suc, div-one, one-add, arith, pow_pos, pow_mono, pow-add, shr-shr}
 use native.Mathlib.Nat.{zero-div, div-eq_of_lt, div_self}
 use lib.Bits.{bit_and, bit_or, and_mask, or_shr, and_shr, or_step, and_step, or_lt, and_le_l}
 use lib.Pow.{pow-lt, shl-shr}

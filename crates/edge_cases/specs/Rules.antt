@@ -5,7 +5,6 @@ use Rattle.basics.specs.declared.refusal.Refusal.{Refusal}
 use Rattle.basics.specs.declared.refusal.Refusal.TheVariants.{GuardsApart}
 use Rattle.basics.specs.Lists.{gathered}
 use Rattle.plans.specs.declared.plan.Node.{Node}
-use Rattle.rules.specs.declared.guard.Guard.{Guard}
 use Rattle.rules.specs.Adding.{guard_refusal, with_guard}
 use Rattle.rules.specs.Locking.{first_or, majority_allows}
 

@@ -1,8 +1,6 @@
 -- Edge cases of a session's calls.
-use Rattle.std.specs.Prelude.{◌≡◌, List, [], ◌∷◌, ℤ, pos, negsuc, Some, None}
-use Rattle.basics.specs.declared.refusal.Refusal.{Refusal}
+use Rattle.std.specs.Prelude.{◌≡◌, [], ◌∷◌, pos, negsuc, Some, None}
 use Rattle.basics.specs.declared.refusal.Refusal.TheVariants.{AmountOutOfBounds}
-use Rattle.plans.specs.declared.plan.Node.{Node}
 use Rattle.stores.specs.Store.{Store}
 use Rattle.image_model.specs.Fields.{image_store}
 use Rattle.model.specs.Calls.{adjust, first_refusal}

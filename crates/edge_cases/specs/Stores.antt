@@ -1,6 +1,5 @@
 -- Edge cases of the packed image.
-use Rattle.std.specs.Prelude.{◌≡◌, ℕ, true, List, [], ◌∷◌, ℤ, pos, negsuc, ◌+ℤ◌, Some, None}
-use Rattle.basics.specs.declared.refusal.Refusal.{Refusal}
+use Rattle.std.specs.Prelude.{◌≡◌, ℕ, true, [], ◌∷◌, pos, negsuc, ◌+ℤ◌, Some, None}
 use Rattle.basics.specs.declared.refusal.Refusal.TheVariants.{OutOfRange}
 use Rattle.plans.specs.declared.plan.Node.{Node}
 use Rattle.image_model.specs.Fields.{packed, unpacked, fits, pack_refusal}

@@ -1,9 +1,9 @@
 -- What the search knows on its way, and that it ends.
-use Rattle.std.proofs.Common.{◌≡◌, ℕ, zero, suc, ◌+◌, ◌^◌, ◌<◌, ◌≤◌, Bool, true, false, ◌&&◌, ◌||◌, eqb, ltb, ◌⊎◌, sym, refl, ap, ◌∙◌, subst, inl, inr, ⊎_elim, arith, pow_pos}
+use Rattle.std.proofs.Common.{◌≡◌, ℕ, zero, suc, Bool, true, ◌&&◌, eqb, ltb, sym, ◌∙◌, subst, ⊎_elim}
 use lib.Bits.{bit_or}
 use Rattle.std.proofs.lemmas.Bool.{or_cases, or_left, or_right, eqb-true, and_parts, both_ways}
 use Rattle.basics.specs.Sets.{has, with_member}
-use Rattle.basics.proofs.Masks.{has_or, has_with, has_none, with_larger}
+use Rattle.basics.proofs.Masks.{has_or, has_with, has_none}
 use Rattle.graph.specs.Walks.{Walk, Reached}
 
 -- what was seen is reached by a walk, and the edges of what was followed lead to what was seen

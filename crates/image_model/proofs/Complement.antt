@@ -1,9 +1,9 @@
 -- Two's complement there and back.
-use Rattle.std.proofs.Common.{◌≡◌, ℕ, zero, suc, ◌+◌, ◌-◌, ◌*◌, ◌^◌, ◌<◌, ◌≤◌, true, false, cond, ◌&&◌, ltb, leb, ℤ, pos, negsuc, ◌-ℤ◌, nat_abs, ◌≤ℤ◌, sym, refl, ap, ◌∙◌, inl, inr, pow-suc, arith, pow_pos}
+use Rattle.std.proofs.Common.{◌≡◌, ℕ, suc, ◌-◌, ◌^◌, ◌<◌, ◌≤◌, true, false, ltb, leb, ℤ, pos, negsuc, ◌-ℤ◌, nat_abs, refl, ap, ◌∙◌, inl, inr, arith, pow_pos}
 use lib.Signed.{le_z}
 use Rattle.std.proofs.lemmas.Int.{ints}
-use Rattle.std.proofs.lemmas.Bool.{and_parts, leb-true, lt-ltb, le-ltb, ltb-true, ltb-false, cond-true, cond-false, cases_lt, and_from, le-leb, false≢true, both_ways}
-use Rattle.image_model.specs.Image.{signed, bits_of, lowest, highest}
+use Rattle.std.proofs.lemmas.Bool.{and_parts, leb-true, lt-ltb, le-ltb, cond-true, cond-false, cases_lt, and_from, le-leb, false≢true, both_ways}
+use Rattle.image_model.specs.Image.{signed, bits_of, lowest}
 use Rattle.image_model.specs.Fields.{fits}
 use Rattle.image_model.specs.ImageLaws.{double}
 

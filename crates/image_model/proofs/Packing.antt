@@ -1,7 +1,7 @@
 -- Packing all fields, unpacking them, and both ways round.
-use Rattle.std.proofs.Common.{◌≡◌, ℕ, zero, suc, ◌+◌, ◌-◌, ◌*◌, ◌/◌, ◌%◌, ◌^◌, ◌<◌, ◌≤◌, Bool, true, false, cond, ◌&&◌, ◌||◌, ltb, leb, List, [], ◌∷◌, ◌++◌, length, get_or, take, drop, set, ℤ, pos, Some, None, sym, refl, ap, ◌∙◌, subst, inl, inr, div-one, arith, length-append, length-drop}
-use Rattle.std.proofs.lemmas.List.{same_lists, get_or-drop, get_or-take, get_or_append_left, get_or-append_right, get_or_default, get_or_push, take_more, take_more_set, drop-set-lt, drop-drop, take-append-drop, at_drop_more, at_drop_all}
-use Rattle.std.proofs.lemmas.Bool.{cases_lt, cases_eq, cond-true, cond-false, lt-ltb, le-ltb, ltb-false, and_parts, or_parts}
+use Rattle.std.proofs.Common.{◌≡◌, ℕ, zero, suc, ◌+◌, ◌-◌, ◌*◌, ◌<◌, ◌≤◌, Bool, true, false, cond, ◌&&◌, ◌||◌, ltb, leb, List, [], ◌∷◌, ◌++◌, length, get_or, take, drop, set, ℤ, pos, Some, None, sym, refl, ap, ◌∙◌, inl, inr, div-one, arith, length-append, length-drop}
+use Rattle.std.proofs.lemmas.List.{same_lists, get_or-drop, get_or_append_left, get_or-append_right, get_or_default, get_or_push, take_more, take_more_set, drop-set-lt, drop-drop, take-append-drop, at_drop_more, at_drop_all}
+use Rattle.std.proofs.lemmas.Bool.{cases_lt, cond-true, cond-false, lt-ltb, le-ltb, ltb-false, and_parts, or_parts}
 use Rattle.std.proofs.lemmas.Bool.Decides.{nat_tests}
 use Rattle.basics.specs.declared.refusal.Refusal.TheVariants.{ShortBuffer, OutOfRange}
 use Rattle.basics.proofs.Refusing.{none_applies, none_holds}
@@ -9,8 +9,8 @@ use Rattle.basics.specs.Sets.{has}
 use Rattle.basics.proofs.Masks.{has_none}
 use Rattle.plans.specs.declared.plan.Node.{Node}
 use Rattle.plans.specs.Nodes.{no_node, node_at, field_start}
-use Rattle.plans.proofs.Starts.{start_first, start_next}
-use Rattle.image_model.specs.Image.{image_bit, number, bytes, signed, bits_of, within_field, with_field}
+use Rattle.plans.proofs.Starts.{start_next}
+use Rattle.image_model.specs.Image.{image_bit, number, bytes, signed, bits_of, with_field}
 use Rattle.image_model.specs.Fields.{plan_bits, plan_bytes, field_value, unpacked, packed_bit, packed, spare_cleared, fits, all_fit, short_refusal, pack_refusal}
 use Rattle.image_model.specs.ImageLaws.{number_lt}
 use Rattle.image_model.proofs.Complement.{bits_small, bits_back, signed_bits}

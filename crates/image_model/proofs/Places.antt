@@ -1,13 +1,13 @@
 -- Which fields lie in an image, and that fields lie apart.
-use Rattle.std.proofs.Common.{◌≡◌, ℕ, zero, suc, ◌+◌, ◌-◌, ◌*◌, ◌/◌, ◌^◌, ◌<◌, ◌≤◌, Bool, true, false, cond, ◌&&◌, eqb, ltb, leb, ◌⊎◌, List, [], ◌∷◌, length, ℤ, pos, sym, refl, ap, ◌∙◌, subst, inl, inr, arith}
+use Rattle.std.proofs.Common.{◌≡◌, ℕ, zero, suc, ◌+◌, ◌-◌, ◌*◌, ◌^◌, ◌<◌, ◌≤◌, false, cond, ◌&&◌, eqb, ltb, leb, List, [], ◌∷◌, length, ℤ, pos, sym, ap, ◌∙◌, subst, inl, inr, arith}
 use lib.Signed.{le_z}
-use Rattle.std.proofs.lemmas.Bool.{cases_Bool, cases_lt, cases_eq, cond-true, cond-false, leb-true, leb-false, ltb-true, le-leb, lt-leb, lt-ltb, le-ltb, eq-eqb, ne_eqb, and_from, and_left, and_right}
+use Rattle.std.proofs.lemmas.Bool.{cases_Bool, cases_lt, cases_eq, cond-true, cond-false, leb-true, leb-false, le-leb, lt-leb, lt-ltb, le-ltb, eq-eqb, ne_eqb, and_from, and_left, and_right}
 use Rattle.std.proofs.lemmas.Bool.Decides.{nat_tests}
 use Rattle.plans.specs.declared.plan.Node.{Node}
-use Rattle.plans.specs.Nodes.{no_node, node_at, field_start}
+use Rattle.plans.specs.Nodes.{node_at, field_start}
 use Rattle.plans.proofs.Starts.{start_first, start_next}
 use Rattle.basics.specs.Sets.{has}
-use Rattle.stores.specs.Store.{Store, set_value, may_put}
+use Rattle.stores.specs.Store.{set_value, may_put}
 use Rattle.stores.proofs.Stores.{same_store}
 use Rattle.image_model.specs.Image.{image_bit, number, signed, lowest, highest, within_field, with_field}
 use Rattle.image_model.specs.Fields.{Lies, leading, fits, field_value, or_zero, image_store}

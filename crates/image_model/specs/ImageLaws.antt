@@ -1,15 +1,15 @@
 -- An image is a lawful store: proofs only, nothing here has to be believed.
-use Rattle.std.specs.Prelude.{◌≡◌, ℕ, zero, suc, ◌+◌, ◌-◌, ◌*◌, ◌^◌, ◌<◌, ◌≤◌, Bool, true, false, cond, List, [], ◌∷◌, length, ℤ, pos, negsuc, ◌-ℤ◌, ◌≤ℤ◌, nat_le, nat_lt, slice_index_or, refl}
-use Rattle.std.proofs.Common.{sym, ◌∙◌, ap, subst, inl, inr, pow-suc, arith, pow_pos, pow_mono}
+use Rattle.std.specs.Prelude.{◌≡◌, ℕ, zero, suc, ◌+◌, ◌-◌, ◌*◌, ◌^◌, ◌<◌, ◌≤◌, Bool, true, false, cond, List, [], ◌∷◌, length, ℤ, pos, ◌-ℤ◌, nat_le, nat_lt, slice_index_or}
+use Rattle.std.proofs.Common.{sym, ◌∙◌, ap, subst, inl, inr, pow-suc, arith, pow_mono}
 use Rattle.std.specs.Int.Signed.{le_z_yes}
-use Rattle.std.proofs.lemmas.List.{length-take-le, get_or-take, length-take}
+use Rattle.std.proofs.lemmas.List.{get_or-take, length-take}
 use Rattle.std.proofs.lemmas.Int.{ints}
-use Rattle.std.proofs.lemmas.Bool.{cases_Bool, cases_lt, cond-true, cond-false, cond_both, leb-true, ltb-true, le-ltb, lt-ltb}
+use Rattle.std.proofs.lemmas.Bool.{cases_Bool, cases_lt, cond-true, cond-false, cond_both, ltb-true, le-ltb, lt-ltb}
 use Rattle.plans.specs.declared.plan.Node.{Node}
 use Rattle.plans.specs.declared.plan.Plan.{Plan}
 use Rattle.plans.specs.Meaning.{nodes_of}
 use Rattle.plans.specs.Nodes.{no_node, node_at, field_start}
-use Rattle.stores.specs.Store.{Store, Small, Lawful}
+use Rattle.stores.specs.Store.{Small, Lawful}
 use Rattle.image_model.specs.Image.{image_bit, number, signed, lowest, highest}
 use Rattle.image_model.specs.Fields.{field_value, leading, or_zero, image_store}
 

@@ -9,7 +9,7 @@ use Rattle.stores.specs.Store.{Store}
 use Rattle.model.specs.declared.table.Phase.TheVariants.{Open}
 use Rattle.model.specs.declared.table.Record.{Record}
 use Rattle.model.specs.Lists.{In, Before}
-use Rattle.model.specs.State.{State, nodes, transactions, lockers_at, earlier_than, node, transaction, phase, locked, held, holder, Holds}
+use Rattle.model.specs.State.{State, nodes, transactions, lockers_at, earlier_than, node, transaction, locked, held, holder, Holds}
 use Rattle.model.specs.Step.{granted}
 use Rattle.model.specs.History.{Access}
 use Rattle.model.proofs.Members.{◌∈◌}

@@ -1,19 +1,19 @@
 -- The phases, the holders and the count of a session are those that its history tells.
-use Rattle.std.proofs.Common.{◌≡◌, ℕ, zero, suc, ◌+◌, ◌<◌, ◌≤◌, Bool, true, false, cond, eqb, leb, List, [], ◌∷◌, ◌++◌, map, length, get_or, set, replicate, pos, Some, None, Option, sym, refl, ap, ◌∙◌, inl, inr, arith, get_or-set_other, get_or-set_same}
-use Rattle.std.proofs.lemmas.Bool.{cases_Bool, cases_eq, cond-true, cond-false, eq-eqb, ne_eqb, leb-false}
+use Rattle.std.proofs.Common.{◌≡◌, ℕ, zero, suc, ◌+◌, ◌<◌, Bool, true, false, cond, eqb, leb, List, [], ◌∷◌, ◌++◌, map, length, get_or, set, replicate, pos, Some, None, Option, sym, refl, ap, ◌∙◌, inl, inr, arith, get_or-set_other, get_or-set_same}
+use Rattle.std.proofs.lemmas.Bool.{cases_eq, cond-true, cond-false, eq-eqb, ne_eqb, leb-false}
 use Rattle.basics.specs.declared.refusal.Refusal.{Refusal}
 use Rattle.rules.specs.Rule.{Rule}
 use Rattle.basics.specs.declared.transaction.TransactionNumber.{TransactionNumber}
 use Rattle.stores.specs.Store.{Store}
 use Rattle.model.specs.declared.table.Phase.{Phase}
-use Rattle.model.specs.declared.table.Phase.TheVariants.{Open, Waiting, Ended}
+use Rattle.model.specs.declared.table.Phase.TheVariants.{Open}
 use Rattle.model.specs.declared.table.Record.{Record}
-use Rattle.model.specs.Calls.{Operation, Call, begin, lock, release, access, withdraw, end, Answer, done, waiting, refused, Event, first_refusal, unless_refused}
+use Rattle.model.specs.Calls.{Call, begin, lock, release, access, withdraw, end, Answer, done, waiting, refused, Event, first_refusal, unless_refused}
 use Rattle.model.specs.Checks.{lock_checks, use_checks, withdraw_checks, end_checks, begin_checks, grant_or_wait, answer}
-use Rattle.model.specs.State.{State, node, transaction, blank, phase, holder, count, begun_count, start}
+use Rattle.model.specs.State.{State, transaction, blank, phase, holder, count, begun_count, start}
 use Rattle.model.specs.Step.{after, freed, Run, step, run, session}
-use Rattle.model.specs.Standing.{by_answer, phase_after, phase_told, phase_in, holder_without, holder_after, holder_told, holder_in, begins, begun_in}
-use Rattle.model.proofs.Inv.{Inv, start_inv}
+use Rattle.model.specs.Standing.{phase_after, phase_told, phase_in, holder_without, holder_after, holder_told, holder_in, begins, begun_in}
+use Rattle.model.proofs.Inv.{start_inv}
 use Rattle.model.proofs.Steps.{Holding, step_holds}
 use Rattle.model.proofs.Refusing.{Passed, refused_cases, alike_cases}
 

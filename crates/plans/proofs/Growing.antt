@@ -1,13 +1,12 @@
 -- A plan with one node more keeps its properties.
-use Rattle.std.proofs.Common.{◌≡◌, ℕ, ◌+◌, ◌<◌, ◌≤◌, Bool, true, false, cond, not, ◌&&◌, ◌||◌, eqb, leb, ◌≢◌, ◌⊎◌, List, length, get_or, set, Some, None, Option, sym, refl, ap, ◌∙◌, subst, inl, inr, arith, get_or-set_other, get_or-set_same}
-use Rattle.std.proofs.lemmas.Bool.{cases_Bool, cases_eq, and_parts, leb-true, leb-false, eqb-false, or_cases, or_parts, not-true, not-false, eqb-true}
+use Rattle.std.proofs.Common.{◌≡◌, ℕ, ◌<◌, ◌≤◌, true, not, ◌||◌, eqb, leb, List, length, None, inl, inr, arith}
+use Rattle.std.proofs.lemmas.Bool.{and_parts, leb-true, leb-false, eqb-false, or_cases, or_parts, not-true, not-false, eqb-true}
 use Rattle.basics.specs.declared.node.NodeNumber.{NodeNumber}
 use Rattle.basics.specs.declared.refusal.Refusal.TheVariants.{LimitExceeded, BadParents}
 use Rattle.basics.proofs.Refusing.{none_applies, none_holds}
 use Rattle.basics.specs.Lists.{all_below, rising}
 use Rattle.plans.specs.declared.plan.Node.{Node}
 use Rattle.plans.specs.Building.{good_width, good_parents, node_refusal}
-use Rattle.plans.specs.Nodes.{no_node}
 
 -- what is known of a node that is not refused
 pub record Accepted (count width : ℕ) (parents : List NodeNumber) : Type 0 where

@@ -7,7 +7,6 @@ use Rattle.basics.specs.declared.transaction.TransactionNumber.{TransactionNumbe
 use Rattle.scripts_model.specs.declared.step.Step.{Step as AnyStep}
 use Rattle.runtext_model.specs.Lines.{Line, form, by_first, line_of_pieces, line_of}
 use Rattle.runtext_model.specs.Pieces.{pieces}
-use Rattle.runtext_model.specs.Words.{Word, letter}
 use Rattle.runtext.specs.declared.letter.Form.{Form}
 use Rattle.runtext.specs.declared.letter.Form.TheVariants.{Rule, Node, Guard, Script, Step, Turns}
 use Rattle.runtext.specs.declared.steps.StepForm.TheVariants.{Lock, Release, Read, Write, Adjust}

@@ -1,9 +1,9 @@
 -- Numbers and lists of numbers, piece by piece.
-use Rattle.std.proofs.Common.{◌≡◌, ℕ, ◌<◌, ◌≤◌, Bool, true, false, cond, List, [], ◌∷◌, length, ℤ, pos, negsuc, nat_abs, ◌≤ℤ◌, Some, None, Option, sym, refl, ap, ◌∙◌, subst, ap₂, arith, w32, to_z, of_z}
+use Rattle.std.proofs.Common.{◌≡◌, ℕ, ◌<◌, Bool, true, false, cond, List, [], ◌∷◌, length, ℤ, pos, negsuc, nat_abs, ◌≤ℤ◌, Some, None, Option, sym, refl, ap, ◌∙◌, subst, ap₂, arith, w32, to_z, of_z}
 use lib.Signed.{lt_z}
 use Rattle.std.proofs.lemmas.Int.{ints}
 use Rattle.runtext_model.specs.Lines.{and_then, as_number, unsigned}
-use Rattle.runtext_model.specs.Words.{Word, number, slash, number_value, is_number, word_of}
+use Rattle.runtext_model.specs.Words.{Word, slash, number_value, is_number, word_of}
 use Rattle.runtext.specs.declared.part.Part.{Part}
 use Rattle.runtext.specs.declared.word.Word.TheVariants.{Letter, Number, Slash}
 use Rattle.runtext.specs.declared.word.Word as program

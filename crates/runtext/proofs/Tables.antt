@@ -14,7 +14,7 @@ use Rattle.rules.specs.declared.guard.Guard.{Guard}
 use Rattle.rules.specs.Meaning.{guards_of}
 use Rattle.runtext_model.specs.Accepting.{node_number, line_refusal, with_line}
 use Rattle.runtext_model.specs.Description.{Description}
-use Rattle.runtext_model.specs.Lines.{node, guard}
+use Rattle.runtext_model.specs.Lines.{node}
 use Rattle.scripts_model.specs.declared.step.Step.{Step}
 use Rattle.runtext.specs.declared.setup.Setup.{Setup}
 use Rattle.runtext.specs.Of.{turns_in, description_of}

@@ -1,5 +1,5 @@
 -- Which lines a text may go on with, and what each adds.
-use Rattle.std.specs.Prelude.{ℕ, ◌+◌, Bool, true, false, cond, not, ◌&&◌, ◌||◌, List, [], ◌∷◌, ◌++◌, map, length, ℤ, pos, negsuc, Some, None, Ok, Err, Option, Result, int_le, nat_le, nat_lt}
+use Rattle.std.specs.Prelude.{ℕ, ◌+◌, Bool, true, false, cond, not, ◌&&◌, ◌||◌, List, [], ◌∷◌, ◌++◌, map, length, ℤ, pos, negsuc, Some, None, Err, Option, Result, int_le, nat_le, nat_lt}
 use Rattle.basics.specs.declared.node.NodeNumber.{NodeNumber}
 use Rattle.basics.specs.declared.refusal.Refusal.{Refusal}
 use Rattle.basics.specs.declared.refusal.Refusal.TheVariants.{MalformedLine, MisplacedLine, LimitExceeded, BadParents}
@@ -14,7 +14,7 @@ use Rattle.scripts_model.specs.declared.step.Step.TheVariants.{End, Lock, Releas
 use Rattle.runtext_model.specs.declared.kind.RuleKind.{RuleKind}
 use Rattle.runtext_model.specs.declared.kind.RuleKind.TheVariants.{Tree, Majority, Guards}
 use Rattle.runtext_model.specs.Description.{Description}
-use Rattle.runtext_model.specs.Lines.{Line, rule, node, guard, script, step, turns, line_of}
+use Rattle.runtext_model.specs.Lines.{Line, rule, node, guard, script, step, turns}
 
 abbrev pub is_some : {A : Type 0} → Option A → Bool
 is_some None = false

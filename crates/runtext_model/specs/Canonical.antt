@@ -1,5 +1,5 @@
 -- The format is canonical: every description has one text, and no other text is read as it.
-use Rattle.std.specs.Prelude.{◌≡◌, ℕ, ◌+◌, ◌<◌, ◌≤◌, Bool, true, false, ◌&&◌, List, [], ◌∷◌, length, get_or, ℤ, pos, Some, None, Option, slice_index_or}
+use Rattle.std.specs.Prelude.{◌≡◌, ℕ, ◌+◌, ◌<◌, ◌≤◌, Bool, true, false, List, [], ◌∷◌, length, get_or, pos, Some, None, Option, slice_index_or}
 use Rattle.basics.specs.declared.transaction.TransactionNumber.{TransactionNumber}
 use Rattle.basics.specs.Sets.{has}
 use Rattle.image_model.specs.Fields.{fits}
@@ -10,10 +10,9 @@ use Rattle.rules.specs.Guards as guards
 use Rattle.rules.specs.Parents.{parents_in}
 use Rattle.scripts_model.specs.declared.step.Step.{Step}
 use Rattle.scripts_model.specs.declared.step.Step.TheVariants.{End, Lock, Release, Read, Write, Adjust}
-use Rattle.runtext_model.specs.declared.kind.RuleKind.TheVariants.{Guards}
 use Rattle.runtext_model.specs.Accepting.{good_step, is_some, is_guards}
 use Rattle.runtext_model.specs.Description.{Description}
-use Rattle.runtext_model.specs.Reading.{Outcome, read_text}
+use Rattle.runtext_model.specs.Reading.{read_text}
 use Rattle.runtext_model.specs.Writing.{written}
 
 -- how many scripts begin in a step buffer

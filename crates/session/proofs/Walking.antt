@@ -1,5 +1,5 @@
 -- Chains of predecessors, as the graph search finds them.
-use Rattle.std.proofs.Common.{◌≡◌, ℕ, zero, suc, ◌%◌, ◌^◌, ◌<◌, ◌≤◌, Bool, true, false, ◌&&◌, ltb, ◌↔◌, sym, ap, ◌∙◌, subst, inl, inr, mod-lt, pow_pos}
+use Rattle.std.proofs.Common.{◌≡◌, ℕ, zero, suc, ◌%◌, ◌^◌, ◌<◌, true, ltb, sym, ◌∙◌, subst, inl, inr, mod-lt, pow_pos}
 use mathlib.Core.Path.{fun_ext}
 use Rattle.std.proofs.lemmas.Bool.{cases_lt, cases_Bool, both_ways, and_from, and_right, lt-ltb}
 use Rattle.basics.specs.Sets.{has}

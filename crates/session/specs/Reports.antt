@@ -8,7 +8,7 @@ use Rattle.basics.specs.Sets.{has, counted}
 use Rattle.graph.specs.Walks.{Walk}
 use Rattle.model.specs.Checks.{is_waiting}
 use Rattle.model.specs.Lists.{Distinct}
-use Rattle.model.specs.Order.{predecessors, serial_order}
+use Rattle.model.specs.Order.{predecessors}
 use Rattle.model.specs.State.{State, phase, holder, count, begun_count, Waits}
 
 -- the holder of node n, where the session has such a node

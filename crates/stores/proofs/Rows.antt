@@ -1,5 +1,5 @@
 -- Rows of a table, one of them changed.
-use Rattle.std.proofs.Common.{◌≡◌, ℕ, ◌<◌, ◌≤◌, true, cond, eqb, ltb, ◌≢◌, List, length, get_or, take, set, ℤ, sym, refl, ap, ◌∙◌, subst, inl, inr, arith, length-set, length-take, get_or-set_other, get_or-set_same, w16, SFits}
+use Rattle.std.proofs.Common.{◌≡◌, ℕ, ◌<◌, true, cond, eqb, ltb, ◌≢◌, List, length, get_or, take, set, ℤ, sym, refl, ap, ◌∙◌, inl, inr, arith, length-set, length-take, get_or-set_other, get_or-set_same, w16, SFits}
 use Rattle.std.proofs.lemmas.List.{get_or-take, get_or_past}
 use Rattle.std.proofs.lemmas.Bool.{cases_eq, cases_lt, eq-eqb, ne_eqb, cond-true, cond-false, and_parts, ltb-true}
 use Rattle.std.proofs.lemmas.Int.{ints}
@@ -7,7 +7,7 @@ use lib.Signed.{le_z}
 use Rattle.stores.specs.declared.table.Row.{Row}
 use Rattle.stores.specs.declared.table.TableStore.{TableStore}
 use Rattle.stores.specs.Meaning.{rows_of}
-use Rattle.stores.specs.Store.{Store, set_value, may_put}
+use Rattle.stores.specs.Store.{set_value, may_put}
 use Rattle.stores.specs.TableLaws.{small_rows}
 use Rattle.stores.specs.Table.{no_row, rows_store}
 use Rattle.stores.proofs.Stores.{same_store}

@@ -1,5 +1,5 @@
 -- The table store: a row for each node.
-use Rattle.std.specs.Prelude.{ℕ, List, length, pos, slice_index_or}
+use Rattle.std.specs.Prelude.{List, length, pos, slice_index_or}
 use Rattle.stores.specs.declared.table.Row.{Row}
 use Rattle.stores.specs.Store.{Store, Small}
 

@@ -1,5 +1,5 @@
 -- A table is a lawful store: proofs only, nothing here has to be believed.
-use Rattle.std.specs.Prelude.{◌≡◌, ℕ, ◌≤◌, List, length, take, pos, slice_index_or}
+use Rattle.std.specs.Prelude.{ℕ, ◌≤◌, List, length, take, slice_index_or}
 use Rattle.std.proofs.Common.{sym, ap, subst, inl, inr, arith, length-take}
 use Rattle.std.specs.Int.Signed.{le_z_yes}
 use Rattle.std.proofs.lemmas.List.{get_or-take, get_or_past}
@@ -7,7 +7,7 @@ use Rattle.std.proofs.lemmas.Bool.{cases_lt}
 use Rattle.stores.specs.declared.table.Row.{Row}
 use Rattle.stores.specs.declared.table.TableStore.{TableStore}
 use Rattle.stores.specs.Meaning.{rows_of}
-use Rattle.stores.specs.Store.{Lawful, Small}
+use Rattle.stores.specs.Store.{Lawful}
 use Rattle.stores.specs.Table.{no_row, SmallRow, rows_store}
 
 pub no_row_small : SmallRow no_row

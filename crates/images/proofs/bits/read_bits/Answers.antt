@@ -1,5 +1,4 @@
-use Rattle.std.proofs.Common.{◌≡◌, ◌+◌, ◌-◌, ◌*◌, ◌^◌, ◌<◌, length, sym, ap, ◌∙◌, arith, pow_pos}
-use Rattle.std.proofs.lemmas.Nat.{mod_below}
+use Rattle.std.proofs.Common.{◌≡◌, ◌+◌, ◌-◌, ◌*◌, ◌^◌, sym, ap, ◌∙◌, arith}
 use Rattle.image_model.specs.Image.{image_bit, number}
 use Rattle.image_model.specs.ImageLaws.{number_lt}
 use Rattle.image_model.proofs.Numbers.{read_step, read_room, byte_piece}

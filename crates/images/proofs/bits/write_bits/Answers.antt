@@ -1,4 +1,4 @@
-use Rattle.std.proofs.Common.{◌≡◌, ℕ, ◌+◌, ◌-◌, ◌/◌, ◌%◌, ◌^◌, cond, ◌&&◌, ltb, leb, get_or, sym, ap, ◌∙◌, arith}
+use Rattle.std.proofs.Common.{◌≡◌, ℕ, ◌+◌, ◌-◌, ◌/◌, ◌%◌, ◌^◌, cond, ◌&&◌, ltb, leb, get_or, ap, ◌∙◌, arith}
 use Rattle.basics.specs.Sets.{has}
 use Rattle.image_model.specs.Image.{image_bit, within_field}
 use Rattle.image_model.proofs.Patches.{write_step, write_more}

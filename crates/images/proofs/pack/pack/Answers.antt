@@ -1,4 +1,4 @@
-use Rattle.std.proofs.Common.{◌≡◌, ℕ, ◌+◌, ◌-◌, ◌*◌, ◌%◌, ◌<◌, ◌≤◌, true, cond, ltb, ◌++◌, length, get_or, drop, pos, sym, refl, ap, ◌∙◌, arith, w8, w32, Fits, SFits, rules}
+use Rattle.std.proofs.Common.{◌≡◌, ℕ, ◌+◌, ◌-◌, ◌*◌, ◌%◌, ◌<◌, cond, ltb, ◌++◌, length, get_or, drop, pos, sym, refl, ap, ◌∙◌, arith, w8, w32, Fits, SFits, rules}
 use Rattle.std.proofs.lemmas.Int.{to_z-of_z}
 use Rattle.std.proofs.lemmas.Bool.{cond-false, le-ltb}
 use Rattle.basics.specs.Refusals.{answer_unless, leave_unless}
@@ -6,9 +6,9 @@ use Rattle.plans.specs.Meaning.{nodes_of}
 use Rattle.plans.specs.Nodes.{node_at, field_start}
 use Rattle.plans.proofs.Starts.{start_first}
 use Rattle.image_model.specs.Image.{image_bit, with_field, bits_of}
-use Rattle.image_model.specs.Fields.{fits, packed, packed_bit, plan_bits, plan_bytes, pack_refusal}
+use Rattle.image_model.specs.Fields.{fits, packed, packed_bit, plan_bits, plan_bytes}
 use Rattle.image_model.specs.ImageLaws.{plan_wide}
-use Rattle.image_model.proofs.Packing.{Long, may_pack, fit_at, pack_step, pack_end, image_is, unpack_packed}
+use Rattle.image_model.proofs.Packing.{may_pack, fit_at, pack_step, pack_end, image_is, unpack_packed}
 use Rattle.images.proofs.pack.pack.Goals as goal
 
 pub loop-n-init : goal.loop-n-init

@@ -1,7 +1,7 @@
-use Rattle.std.proofs.Common.{◌≡◌, true, sym, ap, ◌∙◌, arith, w32}
+use Rattle.std.proofs.Common.{ap, ◌∙◌, arith, w32}
 use Rattle.std.proofs.lemmas.Int.{to_z-of_z}
 use Rattle.plans.specs.Meaning.{nodes_of}
-use Rattle.plans.specs.Nodes.{node_at, field_start}
+use Rattle.plans.specs.Nodes.{field_start}
 use Rattle.image_model.specs.Image.{image_bit, bits_of, with_field}
 use Rattle.image_model.specs.Fields.{fits}
 use Rattle.image_model.specs.ImageLaws.{plan_wide, plan_slim}

@@ -1,10 +1,10 @@
-use Rattle.std.proofs.Common.{◌≡◌, ◌+◌, ◌<◌, ◌++◌, length, take, drop, sym, ap, ◌∙◌, subst, arith, w32, SFits, to_z, of_z, rules}
+use Rattle.std.proofs.Common.{◌≡◌, ◌++◌, length, take, drop, sym, ap, ◌∙◌, subst, arith, w32, SFits, to_z, of_z, rules}
 use Rattle.std.proofs.lemmas.Int.{to_z-of_z}
 use Rattle.basics.specs.Refusals.{answer_unless, leave_unless}
 use Rattle.plans.specs.Meaning.{nodes_of}
-use Rattle.image_model.specs.Fields.{unpacked, packed, short_refusal, field_value}
+use Rattle.image_model.specs.Fields.{unpacked, packed}
 use Rattle.image_model.specs.ImageLaws.{plan_wide}
-use Rattle.image_model.proofs.Packing.{Long, may_unpack, unpack_step, unpack_end, pack_unpacked}
+use Rattle.image_model.proofs.Packing.{may_unpack, unpack_step, unpack_end, pack_unpacked}
 use Rattle.images.proofs.pack.unpack.Goals as goal
 
 pub loop-n-preserved : goal.loop-n-preserved

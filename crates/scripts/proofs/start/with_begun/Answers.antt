@@ -1,5 +1,4 @@
 use Rattle.session.specs.Of.{model_of}
-use Rattle.model.specs.Calls.{begin}
 use Rattle.scripts.proofs.Admitting.{begun_more}
 use Rattle.scripts.proofs.start.with_begun.Goals as goal
 

@@ -1,7 +1,6 @@
-use Rattle.std.proofs.Common.{◌≡◌, ℕ, ◌+◌, ◌<◌, ◌≤◌, true, List, [], ◌∷◌, ◌++◌, length, get_or, set, Ok, sym, refl, ap, ◌∙◌, subst, arith, length-set}
+use Rattle.std.proofs.Common.{◌≡◌, ℕ, ◌+◌, ◌<◌, ◌≤◌, true, [], ◌∷◌, ◌++◌, length, get_or, Ok, sym, ap, ◌∙◌, subst, arith, length-set}
 use Rattle.std.proofs.lemmas.List.{length-take-le, take_more_set}
 use Rattle.basics.specs.Sets.{has}
-use Rattle.basics.specs.Lists.{gathered}
 use Rattle.basics.specs.Refusals.{answer_unless, leave_unless}
 use Rattle.basics.proofs.Listing.{each_more, set_below, set_some, all_below_more}
 use Rattle.plans.specs.declared.plan.Node.{Node}

@@ -1,4 +1,4 @@
-use Rattle.std.proofs.Common.{◌≤◌, length, take, sym, arith}
+use Rattle.std.proofs.Common.{take, sym, arith}
 use Rattle.std.proofs.lemmas.List.{get_or-take, get_or_past, length-take}
 use Rattle.plans.specs.Nodes.{no_node}
 use Rattle.plans.proofs.plan.Plan.node.Goals as goal

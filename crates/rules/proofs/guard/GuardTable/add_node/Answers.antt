@@ -1,4 +1,4 @@
-use Rattle.std.proofs.Common.{◌≡◌, ℕ, ◌<◌, true, List, length, get_or, sym, ap, ◌∙◌, subst}
+use Rattle.std.proofs.Common.{◌≡◌, ◌<◌, true, List, length, get_or, sym, ap, ◌∙◌, subst}
 use Rattle.plans.specs.declared.plan.Node.{Node}
 use Rattle.plans.specs.Building.{node_refusal}
 use Rattle.plans.specs.Meaning.{nodes_of}

@@ -5,7 +5,7 @@ use Rattle.basics.specs.Refusals.{leave_unless}
 use Rattle.plans.specs.declared.plan.Plan.{Plan}
 use Rattle.plans.specs.Meaning.{nodes_of}
 use Rattle.rules.specs.declared.guard.Guard.{Guard}
-use Rattle.rules.specs.Adding.{guard_from, in_limits, good_guard, guard_refusal, with_guard}
+use Rattle.rules.specs.Adding.{guard_from, good_guard, guard_refusal, with_guard}
 use Rattle.rules.specs.Guards.{all_compatible}
 use Rattle.rules.specs.Meaning.{guards_of}
 use Rattle.runtext_model.specs.Accepting.{node_number}

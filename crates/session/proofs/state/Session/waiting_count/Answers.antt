@@ -1,4 +1,4 @@
-use Rattle.std.proofs.Common.{◌≡◌, ◌+◌, sym, ap, ◌∙◌, arith}
+use Rattle.std.proofs.Common.{◌+◌, sym, ap, ◌∙◌, arith}
 use Rattle.model.specs.State.{phase}
 use Rattle.session.specs.Of.{model_of}
 use Rattle.session.proofs.Listing.{waiters_le, waiters_more, waiters_same}

@@ -1,11 +1,11 @@
-use Rattle.std.proofs.Common.{◌≡◌, ◌<◌, true, cond, length, get_or, take, set, ℤ, sym, ap, ◌∙◌, subst, arith, length-set, w16, w32, SFits, to_z, of_z}
+use Rattle.std.proofs.Common.{◌≡◌, ◌<◌, true, length, get_or, take, set, sym, ap, ◌∙◌, subst, arith, length-set, w16, w32, SFits, to_z, of_z}
 use Rattle.std.proofs.lemmas.Int.{ints, to_z-of_z}
 use Rattle.std.proofs.lemmas.Bool.{cond-true}
 use Rattle.stores.specs.declared.table.Row.{Row}
 use Rattle.stores.specs.Meaning.{rows_of}
 use Rattle.stores.specs.Store.{may_put, set_value, Small}
 use Rattle.stores.specs.Table.{no_row, rows_store, SmallRow}
-use Rattle.stores.proofs.Rows.{each_row, put_row, taken, Taken, with_value}
+use Rattle.stores.proofs.Rows.{each_row, put_row, taken, with_value}
 use Rattle.stores.proofs.table_store.TableStoreNodeStore.put.Goals as goal
 
 pub overflow_cast-self : goal.overflow_cast-self
