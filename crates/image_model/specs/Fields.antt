@@ -1,5 +1,5 @@
 -- The fields of a plan's nodes in an image: in rising node number, each as wide as its node, without gaps.
-use Rattle.std.specs.Prelude.{◌≡◌, ℕ, zero, suc, ◌+◌, ◌-◌, ◌*◌, ◌/◌, ◌<◌, ◌≤◌, Bool, true, false, cond, ◌&&◌, ◌||◌, ltb, List, [], ◌∷◌, ◌++◌, length, ℤ, pos, Some, None, Option, int_le, nat_le, nat_lt}
+use Rattle.std.specs.Prelude.{◌≡◌, ℕ, zero, suc, ◌+◌, ◌-◌, ◌*◌, ◌/◌, ◌<◌, ◌≤◌, Bool, true, false, cond, ◌&&◌, ◌||◌, List, [], ◌∷◌, ◌++◌, length, ℤ, pos, Some, None, Option, int_le, nat_le, nat_lt}
 use Rattle.basics.specs.declared.refusal.Refusal.{Refusal}
 use Rattle.basics.specs.declared.refusal.Refusal.TheVariants.{ShortBuffer, OutOfRange}
 use Rattle.basics.specs.Sets.{has}
@@ -72,7 +72,7 @@ image_store nodes image =
 
 -- the field of node n, of `width` bits from bit `start` on, lies wholly in this many bits
 pub record Lies (nodes : List Node) (room n start width : ℕ) : Type 0 where
-  pub leads : ltb n (leading nodes room) ≡ true
+  pub leads : nat_lt n (leading nodes room) ≡ true
   pub node : n < length nodes
   pub starts : start ≡ field_start nodes n
   pub spans : width ≡ (node_at nodes n).width

@@ -1,5 +1,5 @@
 -- What a session holds: the arrays of a program, with its rule and its store.
-use Rattle.std.specs.Prelude.{◌≡◌, ℕ, min, List, get_or, replicate, Some, None, Option, slice_index_or}
+use Rattle.std.specs.Prelude.{◌≡◌, ℕ, min, List, replicate, Some, None, Option, slice_index_or}
 use Rattle.basics.specs.declared.node.NodeNumber.{NodeNumber}
 use Rattle.basics.specs.declared.node.NodeSet.{NodeSet}
 use Rattle.basics.specs.declared.transaction.TransactionNumber.{TransactionNumber}
@@ -68,11 +68,11 @@ holder s n = slice_index_or s.holders n None
 
 -- those that have ever locked node n, as a mask
 abbrev pub lockers_at : State → ℕ → ℕ
-lockers_at s n = (get_or s.lockers n (transactions 0)).mask
+lockers_at s n = (slice_index_or s.lockers n (transactions 0)).mask
 
 -- those that locked a node of t before t did, as a mask
 abbrev pub earlier_than : State → ℕ → ℕ
-earlier_than s t = (get_or s.earlier t (transactions 0)).mask
+earlier_than s t = (slice_index_or s.earlier t (transactions 0)).mask
 
 -- how many nodes the session has
 abbrev pub count : State → ℕ

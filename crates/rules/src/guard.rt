@@ -1,4 +1,4 @@
-ghost use Rattle.std.specs.Prelude.{◌≡◌, ℕ, ◌<◌, ◌≤◌, true, length, get_or, slice_index_or};
+ghost use Rattle.std.specs.Prelude.{◌≡◌, ℕ, ◌<◌, ◌≤◌, true, length, slice_index_or};
 ghost use Rattle.plans.specs.Meaning.{nodes_of};
 ghost use Rattle.rules.specs.Guards.{no_guard, fits, crosses};
 ghost use Rattle.rules.specs.Parents.{parents_in};
@@ -23,7 +23,7 @@ pub struct GuardTable {
     pub(crate) len: u16,
     ghost few: { len ≤ 256 },
     ghost long: { length guards ≡ 256 },
-    ghost known: { (i : ℕ) → i < len → (get_or guards i no_guard).node.0 < length (nodes_of plan) },
-    ghost fit: { (i : ℕ) → i < len → fits (parents_in (nodes_of plan) (get_or guards i no_guard).node.0) (slice_index_or guards i no_guard) ≡ true },
+    ghost known: { (i : ℕ) → i < len → (slice_index_or guards i no_guard).node.0 < length (nodes_of plan) },
+    ghost fit: { (i : ℕ) → i < len → fits (parents_in (nodes_of plan) (slice_index_or guards i no_guard).node.0) (slice_index_or guards i no_guard) ≡ true },
     ghost cross: { (i j : ℕ) → ((i < len) × (j < len)) → crosses (slice_index_or guards i no_guard) (slice_index_or guards j no_guard) ≡ true },
 }

@@ -1,5 +1,5 @@
 -- The format is canonical: every description has one text, and no other text is read as it.
-use Rattle.std.specs.Prelude.{◌≡◌, ℕ, ◌+◌, ◌<◌, ◌≤◌, Bool, true, false, List, [], ◌∷◌, length, get_or, pos, Some, None, Option, slice_index_or}
+use Rattle.std.specs.Prelude.{◌≡◌, ℕ, ◌+◌, ◌<◌, ◌≤◌, Bool, true, false, List, [], ◌∷◌, length, pos, Some, None, Option, slice_index_or}
 use Rattle.basics.specs.declared.transaction.TransactionNumber.{TransactionNumber}
 use Rattle.basics.specs.Sets.{has}
 use Rattle.image_model.specs.Fields.{fits}
@@ -38,7 +38,7 @@ good_entry count (Adjust n d) = good_step count (Adjust n d)
 abbrev pub GoodTurns : ℕ → Option (List TransactionNumber) → Type 0
 GoodTurns scripts None = Unit {0}
 GoodTurns scripts (Some ts) =
-    (length ts ≤ 4096) × ((i : ℕ) → i < length ts → (get_or ts i (record { 0 = 0 })).0 < scripts)
+    (length ts ≤ 4096) × ((i : ℕ) → i < length ts → (slice_index_or ts i (record { 0 = 0 })).0 < scripts)
 
 -- a whole description within all limits
 pub record Lawful (d : Description) : Type 0 where
@@ -54,8 +54,8 @@ pub record Lawful (d : Description) : Type 0 where
   -- guards only under the guard rule: at most 256, of nodes of the plan, each within its rules, each two of one node crossing
   pub guarded : is_guards d.kind ≡ false → d.guards ≡ []
   pub few_guards : length d.guards ≤ 256
-  pub known : (i : ℕ) → i < length d.guards → (get_or d.guards i no_guard).node.0 < length d.nodes
-  pub sound : (i : ℕ) → i < length d.guards → guards.fits (parents_in d.nodes (get_or d.guards i no_guard).node.0) (slice_index_or d.guards i no_guard) ≡ true
+  pub known : (i : ℕ) → i < length d.guards → (slice_index_or d.guards i no_guard).node.0 < length d.nodes
+  pub sound : (i : ℕ) → i < length d.guards → guards.fits (parents_in d.nodes (slice_index_or d.guards i no_guard).node.0) (slice_index_or d.guards i no_guard) ≡ true
   pub cross : (i j : ℕ) → i < length d.guards → j < length d.guards → crosses (slice_index_or d.guards i no_guard) (slice_index_or d.guards j no_guard) ≡ true
   -- at most 32 scripts of at most 1,024 steps, ends counted, the first entry an end
   pub first : 0 < length d.steps → slice_index_or d.steps 0 (Lock (record { 0 = 0 })) ≡ End

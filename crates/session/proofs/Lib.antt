@@ -3,3 +3,4 @@ pub mod Orders
 pub mod Tables
 pub mod Walking
 pub mod Listing
+pub mod Equality

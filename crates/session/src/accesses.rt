@@ -85,8 +85,8 @@ fn is_amount(d: i32) -> bool
 
 // A value of 16 bits and an amount have a sum.
 fn sum(v: i32, d: i32) -> i32
-    requires negsuc_bound { (negsuc 32767 ≤ℤ v) × (v ≤ℤ pos 32767) }
-    requires d_value { in_bounds d ≡ true }
+    requires value { (negsuc 32767 ≤ℤ v) × (v ≤ℤ pos 32767) }
+    requires amount { in_bounds d ≡ true }
     ensures { result ≡ v +ℤ d }
 {
     v + d
