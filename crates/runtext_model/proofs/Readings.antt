@@ -20,11 +20,11 @@ abbrev pub fed : Line → List ℕ
 fed l = line_text l ++ (10 ∷ [])
 
 -- the text so far and what is left are the text of what will be read
-abbrev Goes_on : Description → List (List ℕ) → Outcome → Type 0
-Goes_on d ps o = o.fault ≡ None → written d ++ joined_by 10 ps ≡ written o.description
+abbrev GoesOn : Description → List (List ℕ) → Outcome → Type 0
+GoesOn d ps o = o.fault ≡ None → written d ++ joined_by 10 ps ≡ written o.description
 
 -- at the end of the text
-at_the_end : (d : Description) (line at : ℕ) → Goes_on d [] (at_end d line at)
+at_the_end : (d : Description) (line at : ℕ) → GoesOn d [] (at_end d line at)
 at_the_end d line at h =
     elim (is_empty d.nodes) as (λ b. written d ++ [] ≡ written (cond b (stopped d MisplacedLine line at []) (record { description = d; fault = None })).description) [
       | true ↦ append-nil (written d)
@@ -32,7 +32,7 @@ at_the_end d line at h =
     ]
 
 -- at its last piece
-at_last : (d : Description) (line at : ℕ) (p : List ℕ) → Goes_on d (p ∷ []) (last_piece d line at p)
+at_last : (d : Description) (line at : ℕ) (p : List ℕ) → GoesOn d (p ∷ []) (last_piece d line at p)
 at_last d line at [] h = at_the_end d line at h
 at_last d line at (b ∷ bs) h = absurd (let z : ◌≡◌ {A = ℕ} 0 1 = cc in omega arith)
 
@@ -52,7 +52,7 @@ regroup : (before p left : List ℕ) → before ++ (p ++ (10 ∷ left)) ≡ (bef
 regroup before p left = simp append_assoc
 
 -- past a line that is not the last piece
-past_line : (d : Description) (line at : ℕ) (p q : List ℕ) (ps : List (List ℕ)) → Ordered d → ((e : Description) → Ordered e → Goes_on e (q ∷ ps) (read_lines e (line + 1) (at + length p + 1) (q ∷ ps))) → (o : Option Line) → line_of p ≡ o → (r : Result Description Refusal) → accepted d o ≡ r → Goes_on d (p ∷ (q ∷ ps)) (after_line d line at p (q ∷ ps) r)
+past_line : (d : Description) (line at : ℕ) (p q : List ℕ) (ps : List (List ℕ)) → Ordered d → ((e : Description) → Ordered e → GoesOn e (q ∷ ps) (read_lines e (line + 1) (at + length p + 1) (q ∷ ps))) → (o : Option Line) → line_of p ≡ o → (r : Result Description Refusal) → accepted d o ≡ r → GoesOn d (p ∷ (q ∷ ps)) (after_line d line at p (q ∷ ps) r)
 past_line d line at p q ps ord rest o is (Err e) a h = absurd (let z : ◌≡◌ {A = ℕ} 0 1 = cc in omega arith)
 past_line d line at p q ps ord rest None is (Ok e) a h = absurd (let z : ◌≡◌ {A = ℕ} 0 1 = cc in omega arith)
 past_line d line at p q ps ord rest (Some l) is (Ok e) a h =
@@ -63,7 +63,7 @@ past_line d line at p q ps ord rest (Some l) is (Ok e) a h =
     regroup (written d) p left ∙ ap (λ xs. xs ++ left) (sym here) ∙ rest e keeps h
 
 -- from any line on
-goes_on : (ps : List (List ℕ)) (d : Description) (line at : ℕ) → Ordered d → Goes_on d ps (read_lines d line at ps)
+goes_on : (ps : List (List ℕ)) (d : Description) (line at : ℕ) → Ordered d → GoesOn d ps (read_lines d line at ps)
 goes_on [] d line at o = at_the_end d line at
 goes_on (p ∷ []) d line at o = at_last d line at p
 goes_on (p ∷ (q ∷ ps)) d line at o =
