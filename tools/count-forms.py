@@ -36,8 +36,22 @@ def pairs(first, second):
 def bodies():
     """Each function with its body."""
     for f in SOURCES:
-        for m in re.finditer(r'^( *)(?:pub(?:\(crate\))? )?(?:final )?fn (\w+).*?^\1\{\n(.*?)^\1\}$|^( *)(?:pub(?:\(crate\))? )?(?:final )?fn (\w+)[^\n]*\{\n(.*?)^\4\}$', TEXT[f], re.S | re.M):
-            yield f, m.group(2) or m.group(5), m.group(3) if m.group(2) else m.group(6)
+        rows = TEXT[f].split('\n')
+        for k, row in enumerate(rows):
+            m = re.match(r'( *)(?:pub(?:\(crate\))? )?(?:final )?fn (\w+)', row)
+            if not m:
+                continue
+            start = k
+            while start < len(rows) and not (rows[start].endswith('{') and (start == k or rows[start].startswith((m.group(1) + '{', m.group(1) + ') ')))):
+                if rows[start].endswith(';'):
+                    break
+                start += 1
+            if start == len(rows) or rows[start].endswith(';'):
+                continue
+            end = start + 1
+            while rows[end] != m.group(1) + '}':
+                end += 1
+            yield f, m.group(2), '\n'.join(rows[start + 1:end])
 
 
 def twins():
@@ -62,12 +76,12 @@ def indexed():
 
 
 def repeated():
-    """Facts that three or more functions ask for."""
+    """Facts that three or more functions of a crate ask for."""
     counts = collections.Counter()
     for f in SOURCES:
         for m in re.finditer(r'requires(?: \w+)? \{ (.*) \}', TEXT[f]):
-            counts[m.group(1)] += 1
-    return [f'{n} x {fact}' for fact, n in counts.most_common() if n >= 3]
+            counts[f.split('/')[1], m.group(1)] += 1
+    return [f'{n} x {crate}: {fact}' for (crate, fact), n in counts.most_common() if n >= 3]
 
 
 POINTS = [

@@ -1,41 +1,38 @@
 -- Lists of nodes, one node further.
-use Rattle.std.proofs.Common.{◌≡◌, ℕ, zero, suc, ◌+◌, ◌-◌, ◌<◌, ◌≤◌, true, ◌&&◌, ◌||◌, eqb, ltb, List, [], ◌∷◌, length, get_or, drop, set, sym, refl, ap, ◌∙◌, inl, inr, ⊎_elim, arith, get_or-set_other, get_or-set_same}
+use Rattle.std.specs.List.{AllAdjacentBelow, IsAllAdjacentAnswer}
+use Rattle.std.proofs.Common.{◌≡◌, ℕ, zero, suc, ◌+◌, ◌<◌, ◌≤◌, Bool, true, false, add-one, ◌&&◌, ◌||◌, eqb, ltb, List, [], ◌∷◌, length, get_or, drop, set, sym, refl, ap, ◌∙◌, inl, inr, ⊎_elim, arith, get_or-set_other, get_or-set_same}
 use Rattle.std.proofs.lemmas.List.{at_drop_more}
-use Rattle.std.proofs.lemmas.Bool.{lt-ltb, ltb-true, eqb-true, eq-eqb, and_parts, and_from, or_cases, or_left, cases_lt, cases_eq, both_ways, false≢true}
+use Rattle.std.proofs.lemmas.Bool.{lt-ltb, ltb-true, eqb-true, eq-eqb, and_parts, and_from, and_right, or_cases, or_left, cases_lt, cases_eq, both_ways, false≢true}
 use Rattle.std.proofs.lemmas.Bool.Decides.{nat_tests}
 use Rattle.basics.specs.declared.node.NodeNumber.{NodeNumber}
 use Rattle.basics.specs.Sets.{has, with_member}
-use Rattle.basics.specs.Lists.{all_below, rising, listed, gathered}
+use Rattle.basics.specs.Lists.{all_below, rising_by, listed, gathered}
 use Rattle.basics.proofs.Masks.{has_with, has_none}
 
 -- Rattle's own default for an element
 abbrev pub nought : NodeNumber
 nought = record { 0 = 0 }
 
-pub below_next : (limit : ℕ) (ns : List NodeNumber) (i : ℕ) → i < length ns → all_below limit (drop i ns) ≡ (ltb (get_or ns i nought).0 limit && all_below limit (drop (i + 1) ns))
-below_next limit ns i h = at_drop_more (all_below limit) ns i nought h
+-- what `is_sorted_by` answers, where it compares by <
+rises : {A : Type 0} (number : A → ℕ) (xs : List A) → AllAdjacentBelow (λ x y. true ≡ ltb (number x) (number y)) xs (length xs) → true ≡ rising_by number xs
+rises number [] h = refl
+rises number (x ∷ []) h = refl
+rises number (x ∷ (y ∷ ys)) h =
+    let rest = rises number (y ∷ ys) (λ k d l. rw add-one (rw add-one at (h (suc k) d (omega arith)))) in
+    let here : true ≡ ltb (number x) (number y) = h 0 x (omega arith) in
+    rw (← here) rest
 
-rising_next : (ns : List NodeNumber) (i : ℕ) → i + 1 < length ns → rising (drop i ns) ≡ (ltb (get_or ns i nought).0 (get_or ns (i + 1) nought).0 && rising (drop (i + 1) ns))
-rising_next ns i h =
-    let one = at_drop_more rising ns i nought (omega arith) in
-    let two = at_drop_more (λ xs. rising (get_or ns i nought ∷ xs)) ns (i + 1) nought h in
-    let three = at_drop_more rising ns (i + 1) nought h in
-    one ∙ two ∙ ap (λ b. ltb (get_or ns i nought).0 (get_or ns (i + 1) nought).0 && b) (sym three)
+falls : {A : Type 0} (number : A → ℕ) (xs : List A) (k : ℕ) → suc k < length xs → ((d : A) → false ≡ ltb (number (get_or xs k d)) (number (get_or xs (suc k) d))) → false ≡ rising_by number xs
+falls number [] k l h = absurd (omega arith)
+falls number (x ∷ []) k l h = absurd (omega arith)
+falls number (x ∷ (y ∷ ys)) zero l h = let here = h x in rw (← here) refl
+falls number (x ∷ (y ∷ ys)) (suc k) l h =
+    let rest = falls number (y ∷ ys) k (omega arith) h in
+    sym (and_right (ltb (number x) (number y)) _ (sym rest))
 
--- the same, from the second of the two nodes
-pub rising_step : (ns : List NodeNumber) (i : ℕ) → 1 ≤ i → i < length ns → rising (drop (i - 1) ns) ≡ (ltb (get_or ns (i - 1) nought).0 (get_or ns i nought).0 && rising (drop (i + 1 - 1) ns))
-rising_step ns i h l =
-    let back : i - 1 + 1 ≡ i = omega arith in
-    let forth : i + 1 - 1 ≡ i = omega arith in
-    rw forth (rw back at (rising_next ns (i - 1) (omega arith)))
-
--- a list that has at most one node left is rising
-pub rising_end : (ns : List NodeNumber) (i : ℕ) → length ns ≤ i + 1 → rising (drop i ns) ≡ true
-rising_end [] zero h = refl
-rising_end [] (suc i) h = refl
-rising_end (n ∷ []) zero h = refl
-rising_end (n ∷ (m ∷ ns)) zero h = absurd (omega arith)
-rising_end (n ∷ ns) (suc i) h = rising_end ns i (omega arith)
+pub rising_answer : {A : Type 0} (number : A → ℕ) (xs : List A) (r : Bool) → IsAllAdjacentAnswer (λ x y b. b ≡ ltb (number x) (number y)) xs r → r ≡ rising_by number xs
+rising_answer number xs true h = rises number xs h
+rising_answer number xs false h = falls number xs h.0 (omega (arith, h.1)) (λ d. rw add-one at (h.2 d))
 
 pub gathered_next : (m : ℕ) (ns : List NodeNumber) (i : ℕ) → i < length ns → gathered m (drop i ns) ≡ gathered (with_member 64 m (get_or ns i nought).0) (drop (i + 1) ns)
 gathered_next m ns i h = at_drop_more (gathered m) ns i nought h

@@ -134,14 +134,6 @@ counted_ones (suc w) m h =
 pub same_members : (a b : ℕ) → (eqb a b ≡ true) ↔ ((k : ℕ) → has a k ≡ has b k)
 same_members a b = (λ e k. ap (λ m. has m k) (eqb-true a b e), λ f. eq-eqb a b (has_ext a b f))
 
--- what a program of w bits computes, `m | (1 << n)` and `m & !(1 << n)`
-pub shifted_with : (w m n : ℕ) → n < w → bit_or m ((1 * 2 ^ n) % 2 ^ w) ≡ with_member w m n
-shifted_with w m n h = ap (bit_or m) (one_shl n w h) ∙ cond_below n w (bit_or m (2 ^ n)) m h
-
-pub shifted_without : (w m n : ℕ) → n < w → bit_and m (2 ^ w - 1 - (1 * 2 ^ n) % 2 ^ w) ≡ without_member w m n
-shifted_without w m n h =
-    ap (λ x. bit_and m (2 ^ w - 1 - x)) (one_shl n w h) ∙ cond_below n w (bit_and m (2 ^ w - 1 - 2 ^ n)) m h
-
 -- a new member makes the mask larger
 pub with_larger : (w m n : ℕ) → n < w → has m n ≡ false → m < with_member w m n
 with_larger w m n l new =
@@ -283,3 +275,28 @@ with_lt w m n h = elim (cases_lt n w) [
 pub without_lt : (w m n : ℕ) → m < 2 ^ w → without_member w m n < 2 ^ w
 without_lt w m n h =
     cond_both (ltb n w) (bit_and m (2 ^ w - 1 - 2 ^ n)) m (λ x. x < 2 ^ w) (λ e. omega (arith, and_le_l m (2 ^ w - 1 - 2 ^ n))) (λ e. h)
+
+-- what a program of v bits computes at a set of w bits: `m | (1 << n)` and `m & !(1 << n)`
+pub shifted_with : (v w m n : ℕ) → n < w → w ≤ v → bit_or m ((1 * 2 ^ n) % 2 ^ v) ≡ with_member w m n
+shifted_with v w m n h le =
+    ap (bit_or m) (one_shl n v (omega arith)) ∙ cond_below n w (bit_or m (2 ^ n)) m h
+
+cleared : (v w m n : ℕ) → n < w → w ≤ v → m < 2 ^ w → bit_and m (2 ^ v - 1 - 2 ^ n) ≡ bit_and m (2 ^ w - 1 - 2 ^ n)
+cleared v w m n h le fits = has_ext _ _ (λ k. rw (has_and, has_and, has_clear v (2 ^ n) k (pow-lt (omega arith)), has_clear w (2 ^ n) k (pow-lt h)) (same k))
+  where
+    same : (k : ℕ) → (has m k && (ltb k v && not (has (2 ^ n) k))) ≡ (has m k && (ltb k w && not (has (2 ^ n) k)))
+    same k = elim (cases_lt k w) [
+      | inl l ↦ grind (arith, nat_tests)
+      | inr past ↦ rw (has_past w m k fits past) refl
+    ]
+
+pub shifted_without : (v w m n : ℕ) → n < w → w ≤ v → m < 2 ^ w → bit_and m (2 ^ v - 1 - (1 * 2 ^ n) % 2 ^ v) ≡ without_member w m n
+shifted_without v w m n h le fits =
+    ap (λ x. bit_and m (2 ^ v - 1 - x)) (one_shl n v (omega arith)) ∙ cleared v w m n h le fits ∙ cond_below n w (bit_and m (2 ^ w - 1 - 2 ^ n)) m h
+
+-- the members of a that are none of b, as a program of v bits computes them: `a & !b`
+pub has_minus : (v a b k : ℕ) → a < 2 ^ v → b < 2 ^ v → has (bit_and a (2 ^ v - 1 - b)) k ≡ (has a k && not (has b k))
+has_minus v a b k ha hb = rw (has_and, has_clear v b k hb) (elim (cases_lt k v) [
+  | inl l ↦ grind (arith, nat_tests)
+  | inr past ↦ rw (has_past v a k ha past) refl
+])

@@ -3,5 +3,7 @@
 
 pub mod list;
 pub mod node;
+pub mod number;
 pub mod refusal;
+pub mod set;
 pub mod transaction;

@@ -1,32 +1,25 @@
-// Lists of nodes, as a caller hands them in.
+// Lists of nodes or transactions, as a caller hands them in.
 ghost use Rattle.std.specs.Prelude.{◌≡◌, ℕ, ◌&&◌, nat_lt};
-ghost use Rattle.basics.specs.Lists.{all_below, rising, listed, gathered};
+ghost use Rattle.std.specs.List.{list_all};
+ghost use Rattle.basics.specs.Lists.{rising_by, listed, gathered};
 ghost use Rattle.basics.specs.Sets.{has};
 
 use crate::node::{NodeNumber, NodeSet};
+use crate::number::Numbered;
+use crate::set::NumberSet;
 
-// Whether every node of the list is below the limit.
-pub fn all_below(nodes: &[NodeNumber], limit: u8) -> bool
-    ensures { result ≡ all_below limit nodes.now }
+// Whether every number of the list is below the limit.
+pub fn all_below<T: Numbered>(list: &[T], limit: u8) -> bool
+    ensures { result ≡ list_all (λ n. nat_lt (T.number n) limit) list.now }
 {
-    for n in nodes {
-        if n.0 >= limit {
-            return false;
-        }
-    }
-    true
+    list.iter().all(|n| n.number() < limit)
 }
 
-// Whether each node of the list is larger than the one before it.
-pub fn is_rising(nodes: &[NodeNumber]) -> bool
-    ensures { result ≡ rising nodes.now }
+// Whether each number of the list is larger than the one before it.
+pub fn is_rising<T: Numbered>(list: &[T]) -> bool
+    ensures { result ≡ rising_by T.number list.now }
 {
-    for i in 1..nodes.len() {
-        if nodes[i - 1].0 >= nodes[i].0 {
-            return false;
-        }
-    }
-    true
+    list.is_sorted_by(|a, b| a.number() < b.number())
 }
 
 // The set of the listed nodes; a number past 63 adds nothing.

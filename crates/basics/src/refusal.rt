@@ -1,90 +1,56 @@
 // Why a call is refused.
-ghost use Rattle.std.specs.Prelude.{◌≡◌, ◌==◌};
+ghost use Rattle.std.specs.Prelude.{◌≡◌};
 ghost use Rattle.basics.specs.Refusals.{code_of};
-ghost use Rattle.std.specs.Cmp.Rules.{comparing};
-ghost use Rattle.std.proofs.Common.{rules};
 
 // Each case is named by its cause, and has a number for texts and output.
-#[derive(Clone, Copy, Debug, Drop)]
+#[derive(Clone, Copy, PartialEq, Eq, Debug, Drop)]
 pub enum Refusal {
     // A lent buffer is shorter than the call's input or output needs.
-    ShortBuffer,
+    ShortBuffer = 1,
     // The allowance of turns is above its bound.
-    AllowanceTooLarge,
+    AllowanceTooLarge = 2,
     // The text is longer than 16,384 bytes.
-    TextTooLong,
+    TextTooLong = 3,
     // A line lacks its line feed or has no known form.
-    MalformedLine,
+    MalformedLine = 4,
     // A line stands outside its section, or the text ends too soon.
-    MisplacedLine,
+    MisplacedLine = 5,
     // A count passes its limit, or a number is out of its bounds.
-    LimitExceeded,
+    LimitExceeded = 6,
     // A node's parents are missing, not rising or not lower, or node 0 has some.
-    BadParents,
+    BadParents = 7,
     // A guard's sets are not rising, or break a rule for one pair.
-    BadGuard,
+    BadGuard = 8,
     // A guard fails to meet another guard of its node.
-    GuardsApart,
+    GuardsApart = 9,
     // All 32 transactions are begun.
-    TooManyTransactions,
+    TooManyTransactions = 10,
     // The transaction is not begun.
-    NotBegun,
+    NotBegun = 11,
     // The transaction is ended.
-    AlreadyEnded,
+    AlreadyEnded = 12,
     // The node is not below the session's count.
-    NoSuchNode,
+    NoSuchNode = 13,
     // The transaction waits, and the call is neither withdraw nor the lock it waits for.
-    StillWaiting,
+    StillWaiting = 14,
     // The transaction does not wait.
-    NotWaiting,
+    NotWaiting = 15,
     // The transaction does not hold the node.
-    NotHeld,
+    NotHeld = 16,
     // The transaction has locked the node before.
-    LockedBefore,
+    LockedBefore = 17,
     // The lock rule says no.
-    RuleDenies,
+    RuleDenies = 18,
     // The amount lies outside -65,535 to 65,535.
-    AmountOutOfBounds,
+    AmountOutOfBounds = 19,
     // The new value is outside the node's range.
-    OutOfRange,
+    OutOfRange = 20,
 }
 
 impl Refusal {
     pub fn code(self) -> u8
         ensures { result ≡ code_of self }
     {
-        match self {
-            Refusal::ShortBuffer => 1,
-            Refusal::AllowanceTooLarge => 2,
-            Refusal::TextTooLong => 3,
-            Refusal::MalformedLine => 4,
-            Refusal::MisplacedLine => 5,
-            Refusal::LimitExceeded => 6,
-            Refusal::BadParents => 7,
-            Refusal::BadGuard => 8,
-            Refusal::GuardsApart => 9,
-            Refusal::TooManyTransactions => 10,
-            Refusal::NotBegun => 11,
-            Refusal::AlreadyEnded => 12,
-            Refusal::NoSuchNode => 13,
-            Refusal::StillWaiting => 14,
-            Refusal::NotWaiting => 15,
-            Refusal::NotHeld => 16,
-            Refusal::LockedBefore => 17,
-            Refusal::RuleDenies => 18,
-            Refusal::AmountOutOfBounds => 19,
-            Refusal::OutOfRange => 20,
-        }
-    }
-}
-
-// Two refusals are equal where their numbers are.
-impl PartialEq for Refusal {
-    ghost eq = { λ a b. (code_of a == code_of b) };
-
-    ghost laws = { Prim.search (comparing, rules) };
-
-    fn eq(&self, other: &Refusal) -> bool {
-        self.code() == other.code()
+        self as u8
     }
 }

@@ -1,9 +1,8 @@
 -- What the search knows on its way, and that it ends.
-use Rattle.std.proofs.Common.{◌≡◌, ℕ, zero, suc, Bool, true, ◌&&◌, eqb, ltb, sym, ◌∙◌, subst, ⊎_elim}
-use lib.Bits.{bit_or}
-use Rattle.std.proofs.lemmas.Bool.{or_cases, or_left, or_right, eqb-true, and_parts, both_ways}
-use Rattle.basics.specs.Sets.{has, with_member}
-use Rattle.basics.proofs.Masks.{has_or, has_with, has_none}
+use Rattle.std.proofs.Common.{◌≡◌, ℕ, zero, suc, Bool, true, false, not, ◌&&◌, ◌||◌, eqb, sym, ◌∙◌, subst, ⊎_elim, arith}
+use Rattle.std.proofs.lemmas.Bool.{or_cases, or_left, or_right, eqb-true, and_parts, not-true, both_ways}
+use Rattle.std.proofs.lemmas.Bool.Decides.{nat_tests}
+use Rattle.basics.specs.Sets.{has}
 use Rattle.graph.specs.Walks.{Walk, Reached}
 
 -- what was seen is reached by a walk, and the edges of what was followed lead to what was seen
@@ -12,25 +11,37 @@ pub record Sofar (edge : ℕ → ℕ → Bool) (start seen followed : ℕ) : Typ
   pub sound : (j : ℕ) → has seen j ≡ true → (n : ℕ) × Walk edge start n j
   pub closed : (i j : ℕ) → has followed i ≡ true → edge i j ≡ true → has seen j ≡ true
 
-pub first : (edge : ℕ → ℕ → Bool) (start : ℕ) → Sofar edge start start 0
-first edge start = record {
+pub first : (edge : ℕ → ℕ → Bool) (start none : ℕ) → ((k : ℕ) → has none k ≡ false) → Sofar edge start start none
+first edge start none empty = record {
   starts = λ j h. h;
   sound = λ j h. (0, h);
-  closed = λ i j h e. absurd (both_ways (has 0 i) (has_none i) h);
+  closed = λ i j h e. absurd (both_ways (has none i) (empty i) h);
 }
 
-pub one_more : (edge : ℕ → ℕ → Bool) (start seen followed i next : ℕ) → Sofar edge start seen followed → has seen i ≡ true → ((j : ℕ) → has next j ≡ edge i j) → Sofar edge start (bit_or seen next) (with_member 64 followed i)
-one_more edge start seen followed i next s h told = record {
-  starts = λ j k. has_or seen next j ∙ or_left (has seen j) (has next j) (s.starts j k);
+-- a point of `rest`, which is what was seen and not followed
+pub picked : (seen followed rest i : ℕ) → ((k : ℕ) → has rest k ≡ (has seen k && not (has followed k))) → has rest i ≡ true → (has seen i ≡ true) × (has followed i ≡ false)
+picked seen followed rest i r h =
+    let (l, n) = and_parts (has seen i) (not (has followed i)) (sym (r i) ∙ h) in
+    (l, not-true _ n)
+
+pub none_left : (seen followed rest : ℕ) → ((k : ℕ) → has rest k ≡ (has seen k && not (has followed k))) → ((k : ℕ) → has rest k ≡ false) → (i : ℕ) → has seen i ≡ true → has followed i ≡ true
+none_left seen followed rest r empty i h =
+    let e : (has seen i && not (has followed i)) ≡ false = sym (r i) ∙ empty i in
+    grind (arith, nat_tests)
+
+-- the edges from i followed to `next`
+pub one_more : (edge : ℕ → ℕ → Bool) (past : ℕ → Bool) (start seen followed i next more done : ℕ) → Sofar edge start seen followed → has seen i ≡ true → ((j : ℕ) → has next j ≡ edge i j) → ((j : ℕ) → has more j ≡ (has seen j || has next j)) → ((k : ℕ) → has done k ≡ (has followed k || (eqb k i && past k))) → Sofar edge start more done
+one_more edge past start seen followed i next more done s h told m d = record {
+  starts = λ j k. m j ∙ or_left (has seen j) (has next j) (s.starts j k);
   sound = λ j k.
       ⊎_elim (s.sound j) (λ e. let w = s.sound i h in (suc w.0, (i, (w.1, sym (told j) ∙ e))))
-      (or_cases (has seen j) (has next j) (sym (has_or seen next j) ∙ k));
-  closed = λ a j d e.
-      ⊎_elim (λ old. has_or seen next j ∙ or_left (has seen j) (has next j) (s.closed a j old e))
+      (or_cases (has seen j) (has next j) (sym (m j) ∙ k));
+  closed = λ a j k e.
+      ⊎_elim (λ old. m j ∙ or_left (has seen j) (has next j) (s.closed a j old e))
       (λ new.
-      let q : a ≡ i = eqb-true a i (and_parts (eqb a i) (ltb a 64) new).0 in
-      has_or seen next j ∙ or_right (has seen j) (has next j) (told j ∙ subst (λ p. edge p j ≡ true) q e))
-      (or_cases (has followed a) (eqb a i && ltb a 64) (sym (has_with 64 followed i a) ∙ d));
+      let q : a ≡ i = eqb-true a i (and_parts (eqb a i) (past a) new).0 in
+      m j ∙ or_right (has seen j) (has next j) (told j ∙ subst (λ p. edge p j ≡ true) q e))
+      (or_cases (has followed a) (eqb a i && past a) (sym (d a) ∙ k));
 }
 
 walked : (edge : ℕ → ℕ → Bool) (start seen followed : ℕ) → Sofar edge start seen followed → ((i : ℕ) → has seen i ≡ true → has followed i ≡ true) → (n j : ℕ) → Walk edge start n j → has seen j ≡ true

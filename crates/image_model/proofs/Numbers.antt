@@ -1,5 +1,5 @@
 -- Numbers in rows of bits.
-use Rattle.std.proofs.Common.{◌≡◌, ℕ, zero, suc, ◌+◌, ◌-◌, ◌*◌, ◌/◌, ◌%◌, ◌^◌, ◌<◌, ◌≤◌, Bool, true, false, cond, ◌&&◌, List, get_or, sym, refl, ap, ◌∙◌, inl, inr, mul_assoc, add-mul, mul-le-mul_left, pow-suc, div-one, arith, pow_pos, pow_mono, pow-add}
+use Rattle.std.proofs.Common.{◌≡◌, ℕ, zero, suc, ◌+◌, ◌-◌, ◌*◌, ◌/◌, ◌%◌, ◌^◌, ◌<◌, ◌≤◌, Bool, true, false, cond, ◌&&◌, List, get_or, sym, refl, ap, ◌∙◌, inl, inr, mul_assoc, pow-suc, div-one, arith, pow_pos}
 use Rattle.std.proofs.lemmas.Nat.{mod_below}
 use Rattle.std.proofs.lemmas.Bool.{cases_lt, cases_eq, lt-ltb}
 use Rattle.std.proofs.lemmas.Bool.Decides.{nat_tests}
@@ -72,26 +72,34 @@ number_byte image k o w h =
         let cut : has (byte / 2 ^ s % 2 ^ w) (w - 1 - j) ≡ has byte (s + (w - 1 - j)) = has_mod (byte / 2 ^ s) w (w - 1 - j) ∙ ap (λ b. b && has (byte / 2 ^ s) (w - 1 - j)) (lt-ltb (w - 1 - j) w (omega arith)) ∙ has_shr byte s (w - 1 - j) in
         ap (λ b. has (get_or image b 0) (7 - (8 * k + o + j) % 8)) at ∙ ap (has byte) left ∙ sym cut
 
--- one byte's bits more are read
-pub read_step : (row : ℕ → Bool) (from left take value piece : ℕ) → take ≤ left → piece ≡ number row from take → value * 2 ^ left + number row from left ≡ (value * 2 ^ take + piece) * 2 ^ (left - take) + number row (from + take) (left - take)
-read_step row from left take value piece h e =
-    let whole : take + (left - take) ≡ left = omega arith in
-    let parts : number row from left ≡ number row from take * 2 ^ (left - take) + number row (from + take) (left - take) = ap (number row from) (sym whole) ∙ number_split row from take (left - take) in
-    let power : 2 ^ left ≡ 2 ^ take * 2 ^ (left - take) = ap (λ n. 2 ^ n) (sym whole) ∙ pow-add 2 take (left - take) in
-    let high : value * 2 ^ left ≡ value * 2 ^ take * 2 ^ (left - take) = ap (λ x. value * x) power ∙ sym (mul_assoc value (2 ^ take) (2 ^ (left - take))) in
-    let sum : (value * 2 ^ take + piece) * 2 ^ (left - take) ≡ value * 2 ^ take * 2 ^ (left - take) + piece * 2 ^ (left - take) = add-mul (value * 2 ^ take) piece (2 ^ (left - take)) in
-    let same : piece * 2 ^ (left - take) ≡ number row from take * 2 ^ (left - take) = ap (λ x. x * 2 ^ (left - take)) e in
-    omega arith
+-- a byte is the number of its bits
+pub byte_is : (image : List ℕ) (k : ℕ) → get_or image k 0 < 256 → number (image_bit image) (8 * k) 8 ≡ get_or image k 0
+byte_is image k h =
+    let z : 8 * k + 0 ≡ 8 * k = omega arith in
+    rw z at (number_byte image k 0 8 (omega arith)) ∙ omega (arith, div-one (get_or image k 0))
 
--- what was read has room for one byte's bits more
-pub read_room : (row : ℕ → Bool) (at width from left take value : ℕ) → width ≤ 16 → take ≤ left → number row at width ≡ value * 2 ^ left + number row from left → value * 2 ^ take < 2 ^ 16
-read_room row at width from left take value w h e =
-    let top : 2 ^ width ≤ 2 ^ 16 = pow_mono w in
-    let less : 2 ^ take ≤ 2 ^ left = pow_mono h in
-    omega (arith, number_lt row at width, mul-le-mul_left value less)
+-- one byte more is read
+pub number_more : (image : List ℕ) (from i : ℕ) → get_or image (from + i) 0 < 256 → number (image_bit image) (8 * from) (8 * (i + 1)) ≡ number (image_bit image) (8 * from) (8 * i) * 256 + get_or image (from + i) 0
+number_more image from i h =
+    let e : 8 * (i + 1) ≡ 8 * i + 8 = omega arith in
+    let p : 8 * from + 8 * i ≡ 8 * (from + i) = omega arith in
+    ap (number row (8 * from)) e ∙ number_split row (8 * from) (8 * i) 8
+    ∙ ap (λ b. number row (8 * from) (8 * i) * 256 + b) (ap (λ a. number row a 8) p ∙ byte_is image (from + i) h)
+  where
+    row : ℕ → Bool
+    row = image_bit image
 
--- the piece of a byte that a turn reads
-pub byte_piece : (image : List ℕ) (from take : ℕ) → from % 8 + take ≤ 8 → get_or image (from / 8) 0 / 2 ^ (8 - from % 8 - take) % 2 ^ take ≡ number (image_bit image) from take
-byte_piece image from take h =
-    let place : 8 * (from / 8) + from % 8 ≡ from = omega arith in
-    sym (rw place at (number_byte image (from / 8) (from % 8) take h))
+-- the number in the middle of a longer one, with o bits before it and s bits after it
+pub number_middle : (row : ℕ → Bool) (from o w s : ℕ) → number row from (o + w + s) / 2 ^ s % 2 ^ w ≡ number row (from + o) w
+number_middle row from o w s =
+    sym (number_is row (from + o) w (whole / 2 ^ s % 2 ^ w) (mod_below (whole / 2 ^ s) (2 ^ w) (pow_pos w)) same)
+  where
+    whole : ℕ
+    whole = number row from (o + w + s)
+
+    same : (j : ℕ) → j < w → row (from + o + j) ≡ has (whole / 2 ^ s % 2 ^ w) (w - 1 - j)
+    same j l =
+        let at : from + (o + j) ≡ from + o + j = omega arith in
+        let place : s + (w - 1 - j) ≡ o + w + s - 1 - (o + j) = omega arith in
+        let cut : has (whole / 2 ^ s % 2 ^ w) (w - 1 - j) ≡ has whole (s + (w - 1 - j)) = has_mod (whole / 2 ^ s) w (w - 1 - j) ∙ ap (λ b. b && has (whole / 2 ^ s) (w - 1 - j)) (lt-ltb (w - 1 - j) w (omega arith)) ∙ has_shr whole s (w - 1 - j) in
+        sym (cut ∙ ap (has whole) place ∙ number_has row from (o + w + s) (o + j) (omega arith) ∙ ap row at)

@@ -1,21 +1,24 @@
 -- Packing all fields, unpacking them, and both ways round.
-use Rattle.std.proofs.Common.{◌≡◌, ℕ, zero, suc, ◌+◌, ◌-◌, ◌*◌, ◌<◌, ◌≤◌, Bool, true, false, cond, ◌&&◌, ◌||◌, ltb, leb, List, [], ◌∷◌, ◌++◌, length, get_or, take, drop, set, ℤ, pos, Some, None, sym, refl, ap, ◌∙◌, inl, inr, div-one, arith, length-append, length-drop}
-use Rattle.std.proofs.lemmas.List.{same_lists, get_or-drop, get_or_append_left, get_or-append_right, get_or_default, get_or_push, take_more, take_more_set, drop-set-lt, drop-drop, take-append-drop, at_drop_more, at_drop_all}
+use Rattle.std.proofs.Common.{◌≡◌, ℕ, zero, suc, ◌+◌, ◌-◌, ◌*◌, ◌<◌, ◌≤◌, Bool, true, false, cond, ◌&&◌, ltb, leb, List, [], ◌∷◌, ◌++◌, length, get_or, take, drop, ℤ, pos, Some, None, Option, Ok, sym, refl, ap, ◌∙◌, inl, inr, arith, length-append, length-drop}
+use Rattle.std.proofs.lemmas.List.{same_lists, get_or-drop, get_or_append_left, get_or-append_right, get_or_default, get_or_push, take_more}
+use Rattle.std.specs.List.{list_all, range_with_len, zip}
 use Rattle.std.proofs.lemmas.Bool.{cases_lt, cond-true, cond-false, lt-ltb, le-ltb, ltb-false, and_parts, or_parts}
 use Rattle.std.proofs.lemmas.Bool.Decides.{nat_tests}
+use Rattle.basics.specs.declared.refusal.Refusal.{Refusal}
 use Rattle.basics.specs.declared.refusal.Refusal.TheVariants.{ShortBuffer, OutOfRange}
 use Rattle.basics.proofs.Refusing.{none_applies, none_holds}
+use Rattle.basics.specs.Refusals.{answer_unless}
 use Rattle.basics.specs.Sets.{has}
 use Rattle.basics.proofs.Masks.{has_none}
 use Rattle.plans.specs.declared.plan.Node.{Node}
-use Rattle.plans.specs.Nodes.{no_node, node_at, field_start}
+use Rattle.plans.specs.Nodes.{node_at, field_start}
 use Rattle.plans.proofs.Starts.{start_next}
 use Rattle.image_model.specs.Image.{image_bit, number, bytes, signed, bits_of, with_field}
-use Rattle.image_model.specs.Fields.{plan_bits, plan_bytes, field_value, unpacked, packed_bit, packed, spare_cleared, fits, all_fit, short_refusal, pack_refusal}
+use Rattle.image_model.specs.Fields.{plan_bits, plan_bytes, field_value, unpacked, packed_bit, packed, spare_cleared, fits, all_fit, too_short, short_refusal, pack_refusal}
 use Rattle.image_model.specs.ImageLaws.{number_lt}
 use Rattle.image_model.proofs.Complement.{bits_small, bits_back, signed_bits}
 use Rattle.image_model.proofs.Places.{field_inside}
-use Rattle.image_model.proofs.Numbers.{number_is, number_same, number_has, number_byte}
+use Rattle.image_model.proofs.Numbers.{number_is, number_same, number_has, byte_is}
 
 -- a bit of the packed row lies in its node's field
 pub packed_at : (nodes : List Node) (vs : List ℤ) (n j : ℕ) → n < length nodes → n < length vs → j < (node_at nodes n).width → packed_bit nodes vs (field_start nodes n + j) ≡ has (bits_of (node_at nodes n).width (get_or vs n (pos 0))) ((node_at nodes n).width - 1 - j)
@@ -70,12 +73,6 @@ pack_end nodes vs row after first spare whole was now i =
           let c = has_none (spare - 1 - (i - plan_bits nodes)) in
           grind (arith, nat_tests)
     ]
-
--- a byte is the number of its bits
-byte_is : (image : List ℕ) (k : ℕ) → get_or image k 0 < 256 → number (image_bit image) (8 * k) 8 ≡ get_or image k 0
-byte_is image k h =
-    let z : 8 * k + 0 ≡ 8 * k = omega arith in
-    rw z at (number_byte image k 0 8 (omega arith)) ∙ omega (arith, div-one (get_or image k 0))
 
 length_bytes : (row : ℕ → Bool) (m : ℕ) → length (bytes row m) ≡ m
 length_bytes row zero = refl
@@ -173,42 +170,37 @@ unpack_packed nodes vs image first wide fit many bits (suc k) h =
     ∙ ap (λ z. take k vs ++ (z ∷ [])) value
     ∙ sym (ap (λ n. take n vs) next ∙ take_more vs k (pos 0) (omega arith))
 
--- one value more is looked at
-pub fit_next : (nodes : List Node) (vs : List ℤ) (n : ℕ) → n < length nodes → n < length vs → all_fit (drop n nodes) (drop n vs) ≡ (fits (node_at nodes n).width (get_or vs n (pos 0)) && all_fit (drop (n + 1) nodes) (drop (n + 1) vs))
-fit_next nodes vs n l m =
-    at_drop_more (λ xs. all_fit xs (drop n vs)) nodes n no_node l ∙ at_drop_more (λ ys. all_fit (node_at nodes n ∷ drop (n + 1) nodes) ys) vs n (pos 0) m
-
-pub fit_end : (nodes : List Node) (vs : List ℤ) (n : ℕ) → length nodes ≤ n → all_fit (drop n nodes) (drop n vs) ≡ true
-fit_end nodes vs n l = at_drop_all (λ xs. all_fit xs (drop n vs)) nodes n l
+-- each value beside its node's number
+pub fit_each : (all : List Node) (m : ℕ) (nodes : List Node) (vs : List ℤ) → ((k : ℕ) → node_at all (m + k) ≡ node_at nodes k) → list_all (λ (p : ℕ × ℤ). fits (node_at all p.0).width p.1) (zip (range_with_len m (length nodes)) vs) ≡ all_fit nodes vs
+fit_each all m [] vs at = refl
+fit_each all m (x ∷ xs) [] at = refl
+fit_each all m (x ∷ xs) (v ∷ vs) at =
+    let here : m + 0 ≡ m = omega arith in
+    let first : node_at all m ≡ x = ap (node_at all) (sym here) ∙ at 0 in
+    let rest = fit_each all (m + 1) xs vs (λ k. let next : m + 1 + k ≡ m + suc k = omega arith in ap (node_at all) next ∙ at (suc k)) in
+    ap (λ y. fits y.width v && list_all (λ (p : ℕ × ℤ). fits (node_at all p.0).width p.1) (zip (range_with_len (m + 1) (length xs)) vs)) first
+    ∙ ap (λ b. fits x.width v && b) rest
 
 -- what is known of buffers that are not refused
 pub record Long (nodes : List Node) (values image : ℕ) : Type 0 where
   pub values_long : length nodes ≤ values
   pub image_long : plan_bytes nodes ≤ image
 
-pub long_enough : (nodes : List Node) (values image : ℕ) → (ltb values (length nodes) || ltb image (plan_bytes nodes)) ≡ false → Long nodes values image
+pub long_enough : (nodes : List Node) (values image : ℕ) → too_short nodes values image ≡ false → Long nodes values image
 long_enough nodes values image h =
     let (a, b) = or_parts (ltb values (length nodes)) (ltb image (plan_bytes nodes)) h in
     record { values_long = ltb-false values (length nodes) a; image_long = ltb-false image (plan_bytes nodes) b }
 
+-- a call that answers `Ok` was not refused
+pub not_refused : {A : Type 0} (r : Option Refusal) (a b : A) → answer_unless r a ≡ Ok b → r ≡ None
+not_refused None a b h = refl
+not_refused (Some e) a b h = absurd (cc)
+
 pub may_pack : (nodes : List Node) (vs : List ℤ) (image : ℕ) → pack_refusal nodes vs image ≡ None → Long nodes (length vs) image × (all_fit nodes vs ≡ true)
 may_pack nodes vs image h =
-    let (short, rest) = none_applies (ltb (length vs) (length nodes) || ltb image (plan_bytes nodes)) ShortBuffer (cond (all_fit nodes vs) None (Some OutOfRange)) h in
+    let (short, rest) = none_applies (too_short nodes (length vs) image) ShortBuffer (cond (all_fit nodes vs) None (Some OutOfRange)) h in
     (long_enough nodes (length vs) image short, none_holds (all_fit nodes vs) OutOfRange rest)
 
 pub may_unpack : (nodes : List Node) (values image : ℕ) → short_refusal nodes values image ≡ None → Long nodes values image
 may_unpack nodes values image h =
-    long_enough nodes values image (none_applies (ltb values (length nodes) || ltb image (plan_bytes nodes)) ShortBuffer None h).0
-
--- one value more is read
-pub unpack_step : (nodes : List Node) (image : List ℕ) (values first : List ℤ) (n : ℕ) (v : ℤ) → n < length values → v ≡ field_value nodes image n → take n values ≡ unpacked nodes image n → drop n values ≡ drop n first → (take (n + 1) (set values n v) ≡ unpacked nodes image (n + 1)) × (drop (n + 1) (set values n v) ≡ drop (n + 1) first)
-unpack_step nodes image values first n v l is front back =
-    let next : n + 1 ≡ suc n = omega arith in (
-      take_more_set values n v l ∙ ap (λ xs. xs ++ (v ∷ [])) front ∙ ap (λ z. unpacked nodes image n ++ (z ∷ [])) is ∙ sym (ap (unpacked nodes image) next),
-      drop-set-lt (n + 1) values n v (omega arith) ∙ sym (drop-drop 1 n values) ∙ ap (drop 1) back ∙ drop-drop 1 n first,
-    )
-
--- all are read
-pub unpack_end : (nodes : List Node) (image : List ℕ) (values first : List ℤ) → take (length nodes) values ≡ unpacked nodes image (length nodes) → drop (length nodes) values ≡ drop (length nodes) first → values ≡ unpacked nodes image (length nodes) ++ drop (length nodes) first
-unpack_end nodes image values first front back =
-    sym (take-append-drop (length nodes) values) ∙ ap (λ xs. xs ++ drop (length nodes) values) front ∙ ap (λ ys. unpacked nodes image (length nodes) ++ ys) back
+    long_enough nodes values image (none_applies (too_short nodes values image) ShortBuffer None h).0

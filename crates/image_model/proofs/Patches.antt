@@ -1,125 +1,118 @@
--- A byte with some of its bits replaced.
-use Rattle.std.proofs.Common.{◌≡◌, ℕ, ◌+◌, ◌-◌, ◌*◌, ◌/◌, ◌%◌, ◌^◌, ◌<◌, ◌≤◌, Bool, true, false, cond, not, ◌&&◌, ltb, leb, List, length, get_or, set, sym, ap, ◌∙◌, inl, inr, arith, get_or-set_other, get_or-set_same, pow_pos, pow_mono}
-use lib.Bits.{bit_and, bit_or}
-use Rattle.std.proofs.lemmas.Nat.{or_lt, and_le_l, shl_below}
+-- Some bits in a row of bytes replaced, a byte at a time.
+use Rattle.std.proofs.Common.{◌≡◌, ℕ, ◌+◌, ◌-◌, ◌*◌, ◌/◌, ◌%◌, ◌^◌, ◌<◌, ◌≤◌, Bool, true, false, cond, ◌&&◌, ltb, leb, List, length, get_or, set, take, drop, sym, ap, ◌∙◌, inl, inr, arith, get_or-set_other, get_or-set_same, length-take}
+use borrow.Rule.Slice.PartMut.{put_mid}
+use Rattle.std.proofs.lemmas.List.{get_or-take, get_or-drop, get_or-append_right}
+use Rattle.std.proofs.lemmas.Slice.{take-put_mid_below, take-put_mid, drop-put_mid}
 use Rattle.std.proofs.lemmas.Bool.{cases_lt, cases_eq, lt-ltb, le-ltb, le-leb, lt-leb}
-use Rattle.image_model.specs.Image.{image_bit, within_field}
 use Rattle.std.proofs.lemmas.Bool.Decides.{nat_tests}
 use Rattle.basics.specs.Sets.{has}
-use Rattle.basics.proofs.Masks.{has_or, has_and, has_shl, has_full, has_clear, has_past, has_mod, has_shr}
+use Rattle.basics.proofs.Masks.{has_shl, has_full}
+use Rattle.image_model.specs.Image.{image_bit, with_field}
 
--- the bits of a mask lie in a byte
-pub mask_small : (shift take : ℕ) → shift + take ≤ 8 → (2 ^ take - 1) * 2 ^ shift < 256
-mask_small shift take h =
-    let b = shl_below (2 ^ take - 1) take shift (omega (arith, pow_pos take)) in
-    let all : take + shift ≤ 8 = omega arith in
-    let p : 2 ^ (take + shift) ≤ 2 ^ 8 = pow_mono all in
-    omega arith
-
-pub piece_small : (shift take piece : ℕ) → shift + take ≤ 8 → piece < 2 ^ take → piece * 2 ^ shift < 256
-piece_small shift take piece h l =
-    let b = shl_below piece take shift l in
-    let all : take + shift ≤ 8 = omega arith in
-    let p : 2 ^ (take + shift) ≤ 2 ^ 8 = pow_mono all in
-    omega arith
-
-abbrev pub patch : ℕ → ℕ → ℕ → ℕ → ℕ
-patch byte shift take piece = bit_or (bit_and byte (255 - (2 ^ take - 1) * 2 ^ shift)) (piece * 2 ^ shift)
-
-pub patch_small : (byte shift take piece : ℕ) → byte < 256 → shift + take ≤ 8 → piece < 2 ^ take → patch byte shift take piece < 256
-patch_small byte shift take piece b h l =
-    or_lt 8 _ _ (omega (arith, and_le_l byte (255 - (2 ^ take - 1) * 2 ^ shift))) (piece_small shift take piece h l)
-
-pub patch_has : (byte shift take piece p : ℕ) → byte < 256 → shift + take ≤ 8 → piece < 2 ^ take → has (patch byte shift take piece) p ≡ cond (leb shift p && ltb p (shift + take)) (has piece (p - shift)) (has byte p)
-patch_has byte shift take piece p b h l =
-    let o = has_or (bit_and byte (255 - (2 ^ take - 1) * 2 ^ shift)) (piece * 2 ^ shift) p in
-    let a = has_and byte (255 - (2 ^ take - 1) * 2 ^ shift) p in
-    let c : has (255 - (2 ^ take - 1) * 2 ^ shift) p ≡ (ltb p 8 && not (has ((2 ^ take - 1) * 2 ^ shift) p)) = has_clear 8 ((2 ^ take - 1) * 2 ^ shift) p (mask_small shift take h) in
-    let m = has_shl (2 ^ take - 1) shift p in
-    let f = has_full take (p - shift) in
-    let s = has_shl piece shift p in
-    elim (cases_lt p shift) [
-      | inl under ↦ elim (cases_lt p 8) [
-        | inl low ↦ grind (arith, nat_tests)
-        | inr high ↦ grind (arith, nat_tests)
-      ]
-      | inr over ↦ elim (cases_lt (p - shift) take) [
-        | inl inside ↦ grind (arith, nat_tests)
-        | inr above ↦
-            let z = has_past take piece (p - shift) l above in
-            elim (cases_lt p 8) [
-              | inl low ↦ grind (arith, nat_tests)
-              | inr high ↦ let y = has_past 8 byte p b high in grind (arith, nat_tests)
-            ]
-      ]
-    ]
-
--- one byte of an image is patched: the bits from `from` on are the next ones of u, and all others are as they were
-pub write_step : (image : List ℕ) (from left take u byte : ℕ) → from / 8 < length image → take ≤ left → from % 8 + take ≤ 8 → ((p : ℕ) → has byte p ≡ cond (leb (8 - from % 8 - take) p && ltb p (8 - from % 8 - take + take)) (has (u / 2 ^ (left - take) % 2 ^ take) (p - (8 - from % 8 - take))) (has (get_or image (from / 8) 0) p)) → (i : ℕ) → image_bit (set image (from / 8) byte) i ≡ cond (within_field from take i) (has u (left - 1 - (i - from))) (image_bit image i)
-write_step image from left take u byte room l fits patched i = elim (cases_eq (i / 8) (from / 8)) [
+-- the bits of byte k are replaced where the mask has them, so the field is written up to the end of that byte
+pub run_step : (first image : List ℕ) (at width u spare last k byte : ℕ) → at + width + spare ≡ 8 * last → k < last → k < length image → ((p : ℕ) → has byte p ≡ cond (ltb p 8 && has ((2 ^ width - 1) * 2 ^ spare) (8 * (last - 1 - k) + p)) (ltb p 8 && has (u * 2 ^ spare) (8 * (last - 1 - k) + p)) (has (get_or image k 0) p)) → ((i : ℕ) → image_bit image i ≡ cond (ltb i (8 * k)) (with_field (image_bit first) at width u i) (image_bit first i)) → (i : ℕ) → image_bit (set image k byte) i ≡ cond (ltb i (8 * (k + 1))) (with_field (image_bit first) at width u i) (image_bit first i)
+run_step first image at width u spare last k byte ends below room patched was i = elim (cases_eq (i / 8) k) [
   | inl here ↦
       let p = 7 - i % 8 in
-      let s = 8 - from % 8 - take in
-      let read : image_bit (set image (from / 8) byte) i ≡ has byte p = ap (λ k. has (get_or (set image (from / 8) byte) k 0) p) here ∙ ap (λ b. has b p) (get_or-set_same image (from / 8) byte 0 room) in
-      let old : has (get_or image (from / 8) 0) p ≡ image_bit image i = ap (λ k. has (get_or image k 0) p) (sym here) in
-      elim (cases_lt i from) [
+      let q = 8 * (last - 1 - k) + p in
+      let read : image_bit (set image k byte) i ≡ has byte p = ap (λ j. has (get_or (set image k byte) j 0) p) here ∙ ap (λ b. has b p) (get_or-set_same image k byte 0 room) in
+      let old : has (get_or image k 0) p ≡ image_bit image i = ap (λ j. has (get_or image j 0) p) (sym here) in
+      let new = read ∙ patched p in
+      let kept = old ∙ was i in
+      let low : ltb p 8 ≡ true = lt-ltb p 8 (omega arith) in
+      let todo : ltb i (8 * k) ≡ false = le-ltb i (8 * k) (omega arith) in
+      let done : ltb i (8 * (k + 1)) ≡ true = lt-ltb i (8 * (k + 1)) (omega arith) in
+      let mask = has_shl (2 ^ width - 1) spare q in
+      let full = has_full width (q - spare) in
+      let bits = has_shl u spare q in
+      elim (cases_lt i at) [
         | inl before ↦
-            let a = read ∙ patched p in
-            let out : ltb p (s + take) ≡ false = le-ltb p (s + take) (omega arith) in
-            let no : leb from i ≡ false = lt-leb from i before in
+            let out : leb at i ≡ false = lt-leb at i before in
+            let none : ltb (q - spare) width ≡ false = le-ltb (q - spare) width (omega arith) in
             grind (arith, nat_tests)
-        | inr after ↦ elim (cases_lt i (from + take)) [
+        | inr after ↦ elim (cases_lt i (at + width)) [
           | inl inside ↦
-              let a = read ∙ patched p in
-              let lo : leb s p ≡ true = le-leb s p (omega arith) in
-              let hi : ltb p (s + take) ≡ true = lt-ltb p (s + take) (omega arith) in
-              let q : p - s < take = omega arith in
-              let yes1 : leb from i ≡ true = le-leb from i after in
-              let yes2 : ltb i (from + take) ≡ true = lt-ltb i (from + take) inside in
-              let place : left - take + (p - s) ≡ left - 1 - (i - from) = omega arith in
-              let piece : has (u / 2 ^ (left - take) % 2 ^ take) (p - s) ≡ has u (left - 1 - (i - from)) = has_mod (u / 2 ^ (left - take)) take (p - s) ∙ ap (λ b. b && has (u / 2 ^ (left - take)) (p - s)) (lt-ltb (p - s) take q) ∙ has_shr u (left - take) (p - s) ∙ ap (has u) place in
+              let some : ltb (q - spare) width ≡ true = lt-ltb (q - spare) width (omega arith) in
+              let over : leb spare q ≡ true = le-leb spare q (omega arith) in
+              let yes1 : leb at i ≡ true = le-leb at i after in
+              let yes2 : ltb i (at + width) ≡ true = lt-ltb i (at + width) inside in
+              let place : q - spare ≡ width - 1 - (i - at) = omega arith in
+              let same : has u (q - spare) ≡ has u (width - 1 - (i - at)) = ap (has u) place in
               grind (arith, nat_tests)
           | inr past ↦
-              let a = read ∙ patched p in
-              let out : leb s p ≡ false = lt-leb s p (omega arith) in
-              let no : ltb i (from + take) ≡ false = le-ltb i (from + take) past in
+              let none : leb spare q ≡ false = lt-leb spare q (omega arith) in
+              let out : ltb i (at + width) ≡ false = le-ltb i (at + width) past in
               grind (arith, nat_tests)
         ]
       ]
   | inr ne ↦
-      let same : image_bit (set image (from / 8) byte) i ≡ image_bit image i = ap (λ b. has b (7 - i % 8)) (get_or-set_other image (from / 8) (i / 8) byte 0 ne) in
-      elim (cases_lt i from) [
-        | inl before ↦ let no : leb from i ≡ false = lt-leb from i before in grind (arith, nat_tests)
-        | inr after ↦ let no : ltb i (from + take) ≡ false = le-ltb i (from + take) (omega arith) in grind (arith, nat_tests)
+      let same : image_bit (set image k byte) i ≡ image_bit image i = ap (λ b. has b (7 - i % 8)) (get_or-set_other image k (i / 8) byte 0 ne) in
+      let now = same ∙ was i in
+      elim (cases_lt i (8 * k)) [
+        | inl l ↦ let a : ltb i (8 * (k + 1)) ≡ true = lt-ltb i (8 * (k + 1)) (omega arith) in grind (arith, nat_tests)
+        | inr g ↦ let a : ltb i (8 * (k + 1)) ≡ false = le-ltb i (8 * (k + 1)) (omega arith) in grind (arith, nat_tests)
       ]
 ]
 
--- so the field is written a byte further
-pub write_more : (row : ℕ → Bool) (old new : Bool) (at width from left take u i : ℕ) → from + left ≡ at + width → left ≤ width → take ≤ left → old ≡ cond (within_field at (from - at) i) (has u (width - 1 - (i - at))) (row i) → new ≡ cond (within_field from take i) (has u (left - 1 - (i - from))) old → new ≡ cond (within_field at (from + take - at) i) (has u (width - 1 - (i - at))) (row i)
-write_more row old new at width from left take u i ends small l was is = elim (cases_lt i from) [
-  | inl before ↦
-      let no : leb from i ≡ false = lt-leb from i before in
-      elim (cases_lt i at) [
-        | inl out ↦ let z : leb at i ≡ false = lt-leb at i out in grind (arith, nat_tests)
-        | inr over ↦
-            let a : ltb i (at + (from - at)) ≡ true = lt-ltb i (at + (from - at)) (omega arith) in
-            let b : ltb i (at + (from + take - at)) ≡ true = lt-ltb i (at + (from + take - at)) (omega arith) in
-            grind (arith, nat_tests)
-      ]
-  | inr after ↦
-      let c : ltb i (at + (from - at)) ≡ false = le-ltb i (at + (from - at)) (omega arith) in
-      let in-at : leb at i ≡ true = le-leb at i (omega arith) in
-      elim (cases_lt i (from + take)) [
-        | inl inside ↦
-            let place : left - 1 - (i - from) ≡ width - 1 - (i - at) = omega arith in
-            let same : has u (left - 1 - (i - from)) ≡ has u (width - 1 - (i - at)) = ap (has u) place in
-            let b : ltb i (at + (from + take - at)) ≡ true = lt-ltb i (at + (from + take - at)) (omega arith) in
-            let d : ltb i (from + take) ≡ true = lt-ltb i (from + take) inside in
-            let e : leb from i ≡ true = le-leb from i after in
-            grind (arith, nat_tests)
-        | inr past ↦
-            let b : ltb i (at + (from + take - at)) ≡ false = le-ltb i (at + (from + take - at)) (omega arith) in
-            let d : ltb i (from + take) ≡ false = le-ltb i (from + take) past in
-            grind (arith, nat_tests)
-      ]
+-- past the last byte there is none of the field
+pub run_end : (row : ℕ → Bool) (at width u last i : ℕ) → at + width ≤ 8 * last → cond (ltb i (8 * last)) (with_field row at width u i) (row i) ≡ with_field row at width u i
+run_end row at width u last i ends = elim (cases_lt i (8 * last)) [
+  | inl l ↦ let a : ltb i (8 * last) ≡ true = lt-ltb i (8 * last) l in grind (arith, nat_tests)
+  | inr g ↦
+      let a : ltb i (8 * last) ≡ false = le-ltb i (8 * last) g in
+      let out : ltb i (at + width) ≡ false = le-ltb i (at + width) (omega arith) in
+      grind (arith, nat_tests)
 ]
+
+-- a field that is written in a part of the image is written in the image
+pub run_within : (image bytes : List ℕ) (a k at width u : ℕ) → a + k ≤ length image → 8 * a ≤ at → at + width ≤ 8 * (a + k) → length bytes ≡ k → ((i : ℕ) → image_bit bytes i ≡ with_field (image_bit (take k (drop a image))) (at - 8 * a) width u i) → (i : ℕ) → image_bit (put_mid a k image bytes) i ≡ with_field (image_bit image) at width u i
+run_within image bytes a k at width u fits starts ends long was i = elim (cases_lt (i / 8) a) [
+  | inl under ↦
+      let same : get_or whole (i / 8) 0 ≡ get_or image (i / 8) 0 = sym (get_or-take a whole (i / 8) 0 under) ∙ ap (λ xs. get_or xs (i / 8) 0) (take-put_mid_below a k image bytes a (omega arith) (omega arith)) ∙ get_or-take a image (i / 8) 0 under in
+      let bit : image_bit whole i ≡ image_bit image i = ap (λ b. has b (7 - i % 8)) same in
+      let out : leb at i ≡ false = lt-leb at i (omega arith) in
+      grind (arith, nat_tests)
+  | inr over ↦ elim (cases_lt (i / 8) (a + k)) [
+    | inl inside ↦
+        let j = i - 8 * a in
+        let eighth : i / 8 - a ≡ j / 8 = omega arith in
+        let rest : i % 8 ≡ j % 8 = omega arith in
+        let back : a + j / 8 ≡ i / 8 = omega arith in
+        let front : length (take a image) ≡ a = omega (arith, length-take a image) in
+        let same : get_or whole (i / 8) 0 ≡ get_or bytes (j / 8) 0 = sym (get_or-take (a + k) whole (i / 8) 0 inside) ∙ ap (λ xs. get_or xs (i / 8) 0) (take-put_mid a k image bytes (a + k) (omega arith) (omega arith)) ∙ get_or-append_right (take a image) bytes a (i / 8) 0 front over ∙ ap (λ m. get_or bytes m 0) eighth in
+        let bit : image_bit whole i ≡ image_bit bytes j = ap (λ b. has b (7 - i % 8)) same ∙ ap (λ m. has (get_or bytes (j / 8) 0) (7 - m)) rest in
+        let part : get_or (take k (drop a image)) (j / 8) 0 ≡ get_or image (i / 8) 0 = get_or-take k (drop a image) (j / 8) 0 (omega arith) ∙ get_or-drop a image (j / 8) 0 ∙ ap (λ m. get_or image m 0) back in
+        let old : image_bit (take k (drop a image)) j ≡ image_bit image i = ap (λ b. has b (7 - j % 8)) part ∙ ap (λ m. has (get_or image (i / 8) 0) (7 - m)) (sym rest) in
+        let now = bit ∙ was j in
+        elim (cases_lt i at) [
+          | inl before ↦
+              let out1 : leb (at - 8 * a) j ≡ false = lt-leb (at - 8 * a) j (omega arith) in
+              let out2 : leb at i ≡ false = lt-leb at i before in
+              grind (arith, nat_tests)
+          | inr after ↦
+              let place : j - (at - 8 * a) ≡ i - at = omega arith in
+              let bits : has u (width - 1 - (j - (at - 8 * a))) ≡ has u (width - 1 - (i - at)) = ap (λ m. has u (width - 1 - m)) place in
+              let in1 : leb (at - 8 * a) j ≡ true = le-leb (at - 8 * a) j (omega arith) in
+              let in2 : leb at i ≡ true = le-leb at i after in
+              elim (cases_lt i (at + width)) [
+                | inl l ↦
+                    let yes1 : ltb j (at - 8 * a + width) ≡ true = lt-ltb j (at - 8 * a + width) (omega arith) in
+                    let yes2 : ltb i (at + width) ≡ true = lt-ltb i (at + width) l in
+                    grind (arith, nat_tests)
+                | inr g ↦
+                    let no1 : ltb j (at - 8 * a + width) ≡ false = le-ltb j (at - 8 * a + width) (omega arith) in
+                    let no2 : ltb i (at + width) ≡ false = le-ltb i (at + width) g in
+                    grind (arith, nat_tests)
+              ]
+        ]
+    | inr past ↦
+        let back : a + k + (i / 8 - (a + k)) ≡ i / 8 = omega arith in
+        let same : get_or whole (i / 8) 0 ≡ get_or image (i / 8) 0 = ap (λ m. get_or whole m 0) (sym back) ∙ sym (get_or-drop (a + k) whole (i / 8 - (a + k)) 0) ∙ ap (λ xs. get_or xs (i / 8 - (a + k)) 0) (drop-put_mid a k image bytes (a + k) (omega arith) (omega arith) long) ∙ get_or-drop (a + k) image (i / 8 - (a + k)) 0 ∙ ap (λ m. get_or image m 0) back in
+        let bit : image_bit whole i ≡ image_bit image i = ap (λ b. has b (7 - i % 8)) same in
+        let out : ltb i (at + width) ≡ false = le-ltb i (at + width) (omega arith) in
+        grind (arith, nat_tests)
+  ]
+]
+  where
+    whole : List ℕ
+    whole = put_mid a k image bytes

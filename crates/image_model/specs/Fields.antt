@@ -81,15 +81,18 @@ pub record Lies (nodes : List Node) (room n start width : ℕ) : Type 0 where
   pub near : start < 65536
   pub inside : start + width ≤ room
 
--- why buffers of these lengths are refused: too few values, or too few bytes
+-- too few values, or too few bytes
+abbrev pub too_short : List Node → ℕ → ℕ → Bool
+too_short nodes values image = nat_lt values (length nodes) || nat_lt image (plan_bytes nodes)
+
+-- why buffers of these lengths are refused
 abbrev pub short_refusal : List Node → ℕ → ℕ → Option Refusal
-short_refusal nodes values image =
-    cond (nat_lt values (length nodes) || nat_lt image (plan_bytes nodes)) (Some ShortBuffer) None
+short_refusal nodes values image = cond (too_short nodes values image) (Some ShortBuffer) None
 
 -- why packing is refused, in the order of looking
 abbrev pub pack_refusal : List Node → List ℤ → ℕ → Option Refusal
 pack_refusal nodes values image =
-    cond (nat_lt (length values) (length nodes) || nat_lt image (plan_bytes nodes)) (Some ShortBuffer)
+    cond (too_short nodes (length values) image) (Some ShortBuffer)
     (cond (all_fit nodes values) None (Some OutOfRange))
 
 -- bit i of an image after v was put at node n: where it was taken, the bits of the field are v's, and all others stay

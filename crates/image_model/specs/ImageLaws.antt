@@ -1,14 +1,13 @@
 -- An image is a lawful store: proofs only, nothing here has to be believed.
-use Rattle.std.specs.Prelude.{◌≡◌, ℕ, zero, suc, ◌+◌, ◌-◌, ◌*◌, ◌^◌, ◌<◌, ◌≤◌, Bool, true, false, cond, List, [], ◌∷◌, length, ℤ, pos, ◌-ℤ◌, nat_le, nat_lt, slice_index_or}
+use Rattle.std.specs.Prelude.{◌≡◌, ℕ, zero, suc, ◌+◌, ◌-◌, ◌*◌, ◌^◌, ◌<◌, ◌≤◌, Bool, true, false, cond, List, [], ◌∷◌, length, ℤ, pos, ◌-ℤ◌, nat_le, nat_lt}
 use Rattle.std.proofs.Common.{sym, ◌∙◌, ap, subst, inl, inr, pow-suc, arith, pow_mono}
 use Rattle.std.specs.Int.Signed.{le_z_yes}
-use Rattle.std.proofs.lemmas.List.{get_or-take, length-take}
 use Rattle.std.proofs.lemmas.Int.{ints}
 use Rattle.std.proofs.lemmas.Bool.{cases_Bool, cases_lt, cond-true, cond-false, cond_both, ltb-true, le-ltb, lt-ltb}
 use Rattle.plans.specs.declared.plan.Node.{Node}
 use Rattle.plans.specs.declared.plan.Plan.{Plan}
 use Rattle.plans.specs.Meaning.{nodes_of}
-use Rattle.plans.specs.Nodes.{no_node, node_at, field_start}
+use Rattle.plans.specs.Nodes.{node_at, field_start}
 use Rattle.stores.specs.Store.{Small, Lawful}
 use Rattle.image_model.specs.Image.{image_bit, number, signed, lowest, highest}
 use Rattle.image_model.specs.Fields.{field_value, leading, or_zero, image_store}
@@ -54,17 +53,11 @@ highest_small w s = let top = half w s in (omega (arith, ints), omega (arith, in
 zero_small : Small (pos 0)
 zero_small = (le_z_yes tt, le_z_yes tt)
 
--- what holds of each node's width in a plan
-plan_width : (P : ℕ → Type 0) (p : Plan) → ((n : ℕ) → n < p.count → P (slice_index_or p.nodes n no_node).width) → (n : ℕ) → n < length (nodes_of p) → P (node_at (nodes_of p) n).width
-plan_width P p h n l =
-    let below : n < p.count = omega (arith, length-take p.count p.nodes) in
-    subst (λ x. P x.width) (sym (get_or-take p.count p.nodes n no_node below)) (h n below)
-
 pub plan_wide : (p : Plan) (n : ℕ) → n < length (nodes_of p) → 2 ≤ (node_at (nodes_of p) n).width
-plan_wide p = plan_width (λ w. 2 ≤ w) p p.wide
+plan_wide p = p.wide
 
 pub plan_slim : (p : Plan) (n : ℕ) → n < length (nodes_of p) → (node_at (nodes_of p) n).width ≤ 16
-plan_slim p = plan_width (λ w. w ≤ 16) p p.slim
+plan_slim p n l = p.slim n
 
 or_zero_small : (count : ℕ) (f : ℕ → ℤ) → ((n : ℕ) → n < count → Small (f n)) → (n : ℕ) → Small (or_zero count f n)
 or_zero_small count f small n = cond_both (nat_lt n count) (f n) (pos 0) Small (λ t. small n (ltb-true n count t)) (λ _. zero_small)
@@ -74,7 +67,7 @@ or_zero_past count f n h = cond-false (nat_lt n count) (f n) (pos 0) (le-ltb n c
 
 pub image_lawful : (p : Plan) (image : List ℕ) → Lawful (image_store (nodes_of p) image)
 image_lawful p image = record {
-  few = omega (arith, few, length-take p.count p.nodes, p.few);
+  few = omega (arith, few, p.few);
   small_value = or_zero_small count (field_value (nodes_of p) image) (λ n l. let below : n < length (nodes_of p) = omega (arith, few) in signed_small (node_at (nodes_of p) n).width _ (plan_wide p n below) (plan_slim p n below) (number_lt (image_bit image) (field_start (nodes_of p) n) (node_at (nodes_of p) n).width));
   small_low = or_zero_small count (λ n. lowest (node_at (nodes_of p) n).width) (λ n l. lowest_small _ (plan_slim p n (omega (arith, few))));
   small_high = or_zero_small count (λ n. highest (node_at (nodes_of p) n).width) (λ n l. highest_small _ (plan_slim p n (omega (arith, few))));

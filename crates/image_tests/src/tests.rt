@@ -23,7 +23,7 @@ fn ends(width: u8) -> (i32, i32) {
 
 #[test]
 fn packs_every_width_with_its_ends(rt: HostRuntime) -> Result<(), Fail> {
-    for width in 2..17 {
+    for width in 2..=16 {
         let plan = chain(width, width, width)?;
         let (low, high) = ends(width);
         let mut image = [0xff; 8];
@@ -65,8 +65,8 @@ fn refuses_what_does_not_fit(rt: HostRuntime) -> Result<(), Fail> {
 // A field at every offset in a byte, between fields of ones: it alone changes.
 #[test]
 fn puts_beside_its_neighbours(rt: HostRuntime) -> Result<(), Fail> {
-    for before in 2..17 {
-        for width in 2..17 {
+    for before in 2..=16 {
+        for width in 2..=16 {
             let plan = chain(before, width, 3)?;
             let mut image = [0xff; 8];
             let mut store = PackedStore::new(&plan, &mut image);

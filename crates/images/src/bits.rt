@@ -1,81 +1,68 @@
-// Fields of up to 16 bits in a row of bytes, by shift and mask, a byte at a time.
-ghost use Rattle.std.specs.Prelude.{◌≡◌, ℕ, ◌+◌, ◌-◌, ◌*◌, ◌/◌, ◌%◌, ◌^◌, ◌<◌, ◌≤◌, ◌&&◌, length, if◌then◌else◌, nat_le, nat_lt};
+// Runs of up to 16 bits in a row of bytes, by shift and mask.
+ghost use Rattle.std.specs.Prelude.{◌≡◌, ℕ, ◌+◌, ◌-◌, ◌*◌, ◌%◌, ◌^◌, ◌<◌, ◌≤◌, ◌&&◌, length, if◌then◌else◌, nat_lt};
 ghost use Rattle.basics.specs.Sets.{has};
 ghost use Rattle.image_model.specs.Image.{image_bit, number, with_field};
 
-// A number of `take` ones.
-fn ones(take: u32) -> u32
-    requires { take ≤ 16 }
-    ensures { result ≡ 2 ^ take - 1 }
+// A number of `width` ones. No `Width`, here and below: the spare bits after the last field are a run too, maybe of none.
+fn ones(width: u8) -> u32
+    requires { width ≤ 16 }
+    ensures { result ≡ 2 ^ width - 1 }
 {
-    (1 << take) - 1
+    (1 << width) - 1
 }
 
-// The `take` bits of a number that stand above its lowest `shift` bits.
-fn piece_of(whole: u32, shift: u32, take: u32) -> u32
-    requires { shift + take ≤ 16 }
-    ensures { result ≡ (whole / 2 ^ shift) % 2 ^ take }
+// How many bits of its last byte stand after a run that ends at bit `end`.
+pub(crate) fn spare_after(end: usize) -> u8
+    ensures { result ≡ (8 - end % 8) % 8 }
 {
-    (whole >> shift) & ones(take)
+    ((8 - end % 8) % 8) as u8
 }
 
-// The byte with those bits replaced.
-fn patched(byte: u8, shift: u32, take: u32, piece: u32) -> u8
-    requires { (shift + take ≤ 8) × (piece < 2 ^ take) }
-    ensures { (p : ℕ) → has result p ≡ (if nat_le shift p && nat_lt p (shift + take) then has piece (p - shift) else has byte p) }
+// The eight bits of a number above its lowest `shift` bits.
+fn byte_of(whole: u32, shift: usize) -> u8
+    requires { shift ≤ 24 }
+    ensures { (p : ℕ) → has result p ≡ (nat_lt p 8 && has whole (shift + p)) }
 {
-    let mask = ones(take) << shift;
-    ((byte as u32 & (255 - mask)) | (piece << shift)) as u8
+    ((whole >> shift) & 0xff) as u8
 }
 
-fn appended(value: u32, take: u32, piece: u32) -> u32
-    requires { (take ≤ 8) × ((value * 2 ^ take < 2 ^ 16) × (piece < 2 ^ take)) }
-    ensures { result ≡ value * 2 ^ take + piece }
+// The byte with the bits of the mask replaced by those of `bits`.
+fn patched(byte: u8, mask: u8, bits: u8) -> u8
+    ensures { (p : ℕ) → has result p ≡ (if has mask p then has bits p else has byte p) }
 {
-    (value << take) | piece
-}
-
-// How many of the bits from bit `from` on lie in one byte, at most `left`.
-fn in_one_byte(from: usize, left: u32) -> u32
-    ensures some { 0 < left → 0 < result }
-    ensures within { result ≤ left }
-    ensures fits { from % 8 + result ≤ 8 }
-{
-    let room = 8 - (from % 8) as u32;
-    if left < room { left } else { room }
+    (byte & !mask) | (bits & mask)
 }
 
 // The number in the `width` bits from bit `at` on.
-pub(crate) fn read_bits(image: &[u8], at: usize, width: u32) -> u32
-    requires { (width ≤ 16) × ((at < 65536) × (at + width ≤ 8 * length image.now)) }
+pub(crate) fn read_bits(image: &[u8], at: u16, width: u8) -> u32
+    requires slim { width ≤ 16 }
+    requires inside { at + width ≤ 8 * length image.now }
     ensures { result ≡ number (image_bit image.now) at width }
 {
-    let mut value = 0;
-    let mut from = at;
-    let mut left = width;
-    while left > 0 {
-        let take = in_one_byte(from, left);
-        let shift = 8 - (from % 8) as u32 - take;
-        value = appended(value, take, piece_of(image[from / 8] as u32, shift, take));
-        from += take as usize;
-        left -= take;
+    let end = usize::from(at) + usize::from(width);
+    let spare = spare_after(end);
+    let mut whole = 0;
+    for byte in &image[usize::from(at / 8)..end.div_ceil(8)] {
+        whole = (whole << 8) | u32::from(*byte);
     }
-    value
+    (whole >> spare) & ones(width)
 }
 
 // Replaces the `width` bits from bit `at` on by those of `bits`.
-pub(crate) fn write_bits(image: &mut [u8], at: usize, width: u32, bits: u32)
-    requires { (width ≤ 16) × ((at < 65536) × ((at + width ≤ 8 * length image.old) × (bits < 2 ^ width))) }
+pub(crate) fn write_bits(image: &mut [u8], at: u16, width: u8, bits: u32)
+    requires slim { width ≤ 16 }
+    requires inside { at + width ≤ 8 * length image.old }
+    requires small { bits < 2 ^ width }
     ensures { (i : ℕ) → image_bit image.new i ≡ with_field (image_bit image.old) at width bits i }
 {
-    let mut from = at;
-    let mut left = width;
-    while left > 0 {
-        let take = in_one_byte(from, left);
-        let shift = 8 - (from % 8) as u32 - take;
-        let piece = piece_of(bits, left - take, take);
-        image[from / 8] = patched(image[from / 8], shift, take, piece);
-        from += take as usize;
-        left -= take;
+    let end = usize::from(at) + usize::from(width);
+    let spare = spare_after(end);
+    let mask = ones(width) << spare;
+    let run = bits << spare;
+    let bytes = &mut image[usize::from(at / 8)..end.div_ceil(8)];
+    let count = bytes.len();
+    for (k, byte) in bytes.iter_mut().enumerate() {
+        let shift = 8 * (count - 1 - k);
+        *byte = patched(*byte, byte_of(mask, shift), byte_of(run, shift));
     }
 }

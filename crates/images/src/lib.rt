@@ -2,6 +2,7 @@
 #![tactic(auto)]
 
 mod bits;
+mod field;
 pub mod pack;
 pub mod packed;
-mod signs;
+mod width;

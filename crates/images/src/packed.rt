@@ -1,13 +1,12 @@
 // A store over a lent image.
-ghost use Rattle.std.specs.Prelude.{◌≡◌, ℕ, ◌*◌, false, length, MatchOption, nat_lt};
+ghost use Rattle.std.specs.Prelude.{◌≡◌, ℕ, ◌*◌, length, is_some, IfSome, nat_lt};
 ghost use Rattle.plans.specs.Meaning.{nodes_of};
 ghost use Rattle.image_model.specs.Fields.{Lies, leading, image_store, put_bit};
 ghost use Rattle.image_model.specs.Image.{image_bit};
 ghost use Rattle.stores.specs.Store.{may_put, put as put_value};
 ghost use Rattle.image_model.specs.ImageLaws.{image_lawful};
 
-use crate::bits::{read_bits, write_bits};
-use crate::signs::{fits_width, highest_of, lowest_of, sign_extended, twos_complement};
+use crate::field::Field;
 use basics::node::NodeNumber;
 use plans::plan::Plan;
 use stores::store::NodeStore;
@@ -23,6 +22,7 @@ impl<'p, 'a> PackedStore<'p, 'a> {
     pub fn new(plan: &'p Plan, image: &'a mut [u8]) -> PackedStore<'p, 'a>
         ensures plan { result.plan.now ≡ plan.now }
         ensures image { result.image.now ≡ image.old }
+        ensures loan { result.image.ghost_name ≡ image.entry.ghost_name }
     {
         PackedStore { plan, image }
     }
@@ -36,27 +36,18 @@ impl<'p, 'a> PackedStore<'p, 'a> {
     }
 }
 
-// Where a node's field lies.
-#[derive(Clone, Copy)]
-pub(crate) struct Field {
-    pub(crate) start: usize,
-    pub(crate) width: u8,
-}
-
 impl PackedStore<'_, '_> {
     // The field of node n, where there is such a node and the field lies wholly in the image.
     fn field(&self, n: NodeNumber) -> Option<Field>
-        ensures { MatchOption result
-            (nat_lt n.0 (leading (nodes_of self.now.plan.now) (8 * length self.now.image.now)) ≡ false)
-            (λ f. Lies (nodes_of self.now.plan.now) (8 * length self.now.image.now) n.0 f.start f.width) }
+        ensures some { is_some result ≡ nat_lt n.0 (leading (nodes_of self.now.plan.now) (8 * length self.now.image.now)) }
+        ensures lies { IfSome result (λ f. Lies (nodes_of self.now.plan.now) (8 * length self.now.image.now) n.0 f.start f.width.bits) }
     {
         if n.0 >= self.plan.count() {
             return None;
         }
-        let start = self.plan.start(n) as usize;
-        let width = self.plan.width(n);
-        if (start + width as usize + 7) / 8 <= self.image.len() {
-            Some(Field { start, width })
+        let field = Field::of(self.plan, n);
+        if field.end().div_ceil(8) <= self.image.len() {
+            Some(field)
         } else {
             None
         }
@@ -69,35 +60,22 @@ impl NodeStore for PackedStore<'_, '_> {
     ghost lawful = { λ s. image_lawful s.plan.now s.image.now };
 
     fn count(&self) -> u8 {
-        let count = self.plan.count();
-        for n in 0..count {
-            // Most images hold every field, so look for the last one first.
-            if let Some(_) = self.field(NodeNumber(count - 1 - n)) {
-                return count - n;
-            }
-        }
-        0
+        // Most images hold every field, so look for the last one first.
+        (0..self.plan.count())
+            .rfind(|n| self.field(NodeNumber(*n)).is_some())
+            .map_or(0, |n| n + 1)
     }
 
     fn value(&self, n: NodeNumber) -> i32 {
-        match self.field(n) {
-            Some(f) => sign_extended(f.width, read_bits(self.image, f.start, f.width as u32)),
-            None => 0,
-        }
+        self.field(n).map_or(0, |field| field.read(self.image))
     }
 
     fn low(&self, n: NodeNumber) -> i32 {
-        match self.field(n) {
-            Some(f) => lowest_of(f.width),
-            None => 0,
-        }
+        self.field(n).map_or(0, |field| field.width.lowest())
     }
 
     fn high(&self, n: NodeNumber) -> i32 {
-        match self.field(n) {
-            Some(f) => highest_of(f.width),
-            None => 0,
-        }
+        self.field(n).map_or(0, |field| field.width.highest())
     }
 
     // Changes the bits of the field alone.
@@ -108,18 +86,13 @@ impl NodeStore for PackedStore<'_, '_> {
         ensures long { length self.new.image.now ≡ length self.old.image.now }
         ensures bits { (i : ℕ) → image_bit self.new.image.now i ≡ put_bit (nodes_of self.old.plan.now) self.old.image.now n.0 v result i }
     {
-        let Some(f) = self.field(n) else {
+        let Some(field) = self.field(n) else {
             return false;
         };
-        if !fits_width(f.width, v) {
+        if !field.width.fits(v) {
             return false;
         }
-        write_bits(
-            self.image,
-            f.start,
-            f.width as u32,
-            twos_complement(f.width, v),
-        );
+        field.write(self.image, v);
         true
     }
 }

@@ -1,21 +1,14 @@
 // The text from standard input.
-ghost use Rattle.std.specs.Prelude.{◌≡◌, ◌≤◌, length, IfOk};
-
+use arrayvec::ArrayVec;
 use std::io;
 use std::io::Read;
 
-// Fills the buffer as far as the input goes, and answers how much that is. A buffer of one byte more than a text may have
-// is enough to know that a text is too long.
-pub(crate) fn read_input<R: Read>(from: &mut R, text: &mut [u8]) -> io::Result<usize>
-    ensures { IfOk result (λ n. n ≤ length text.old) }
-{
-    let mut filled = 0;
-    while filled < text.len() {
-        let count = from.read(&mut text[filled..])?;
-        if count == 0 {
-            return Ok(filled);
-        }
-        filled += count;
-    }
-    Ok(filled)
+// One byte more than a text may have, so that a text that is too long is known to be.
+const ROOM: usize = 16_385;
+
+// The input, as far as there is room for it.
+pub(crate) fn read_input<R: Read + Drop>(from: R) -> io::Result<ArrayVec<u8, ROOM>> {
+    let mut text = ArrayVec::new();
+    io::copy(&mut from.take(ROOM as u64), &mut text)?;
+    Ok(text)
 }

@@ -6,22 +6,25 @@ mod output;
 mod run;
 
 use crate::input::read_input;
-use crate::output::show_fault;
+use crate::output::show;
 use crate::run::run;
 use basics::transaction::TransactionNumber;
+use runlines::turns::write_fault;
 use runtext::read::read;
 use runtext::setup::Setup;
+use scripts_model::limits::{MOST_LISTED, MOST_STEPS};
 use scripts_model::step::Step;
 use std::io;
 
 fn main(rt: HostRuntime) -> io::Result<()> {
-    let mut text = [0u8; 16385];
-    let length = read_input(&mut rt.stdin(), &mut text)?;
+    let text = read_input(rt.stdin())?;
     let mut setup = Setup::new();
-    let mut steps = [Step::End; 1024];
-    let mut turns = [TransactionNumber(0); 4096];
-    match read(&text[0..length], &mut setup, &mut steps, &mut turns) {
+    let mut steps = [Step::End; MOST_STEPS];
+    let mut turns = [TransactionNumber(0); MOST_LISTED];
+    match read(&text, &mut setup, &mut steps, &mut turns) {
         Ok(()) => run(&setup, &steps, &turns, &mut rt.stdout()),
-        Err(fault) => show_fault(fault.refusal, fault.line, &mut rt.stdout()),
+        Err(fault) => show(&mut rt.stdout(), |line| {
+            write_fault(fault.refusal, fault.line, line)
+        }),
     }
 }

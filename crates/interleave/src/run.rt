@@ -1,16 +1,21 @@
 // The run of a text that was read.
-use crate::output::{show_fault, show_order, show_totals, show_turn, show_values};
+use crate::output::show;
+use basics::refusal::Refusal;
 use basics::transaction::TransactionNumber;
 use images::pack::pack;
 use images::packed::PackedStore;
-use plans::plan::Plan;
 use rules::any::AnyRule;
 use rules::guard::GuardTable;
+use rules::guarded::GuardRule;
+use rules::majority::MajorityRule;
 use rules::rule::LockRule;
+use rules::tree::TreeRule;
+use runlines::lists::{write_order, write_values};
+use runlines::turns::{write_fault, write_totals, write_turn};
 use runtext::setup::Setup;
 use runtext_model::kind::RuleKind;
-use scripts::start::NotStarted;
 use scripts::state::ScriptRun;
+use scripts_model::limits::{MOST_LISTED, MOST_STEPS};
 use scripts_model::step::Step;
 use std::io;
 use std::io::Write;
@@ -19,57 +24,66 @@ use stores::store::NodeStore;
 const ALLOWANCE: u32 = 40_000;
 
 // The rule that the text names.
-fn rule_of(kind: Option<RuleKind>, table: &GuardTable) -> AnyRule<&Plan, &GuardTable> {
+fn rule_of(kind: Option<RuleKind>, table: &GuardTable) -> AnyRule<'_> {
+    let plan = table.plan();
     match kind {
-        Some(RuleKind::Majority) => AnyRule::Majority(table.plan()),
-        Some(RuleKind::Guards) => AnyRule::Guards(table),
-        _ => AnyRule::Tree(table.plan()),
+        Some(RuleKind::Majority) => AnyRule::Majority(MajorityRule { plan }),
+        Some(RuleKind::Guards) => AnyRule::Guards(GuardRule { table }),
+        Some(RuleKind::Tree) | None => AnyRule::Tree(TreeRule { plan }),
     }
 }
 
 // Takes every turn, and shows it; then the order, the values and the totals.
 fn play<R: LockRule + Drop, S: NodeStore + Drop, W: Write>(
-    run: ScriptRun<R, S>,
+    mut run: ScriptRun<R, S>,
     to: &mut W,
 ) -> io::Result<()> {
-    let mut run = run;
     while let Some(turn) = run.advance() {
-        show_turn(turn, to)?;
+        show(to, |line| write_turn(turn.script, turn.answer, line))?;
     }
     let totals = run.totals();
     let session = run.into_session();
-    show_order(&session, to)?;
+    show(to, |line| write_order(&session, line))?;
     let (_, store) = session.into_parts();
-    show_values(&store, to)?;
-    show_totals(totals, to)
+    show(to, |line| write_values(&store, line))?;
+    show(to, |line| write_totals(totals.turns, totals.all_done, line))
 }
 
-pub(crate) fn run<'s, W: Write>(
+// Starts the run and plays it; Err where it may not start.
+fn start<W: Write>(
     setup: &Setup,
-    steps: &'s [Step; 1024],
-    turns: &'s [TransactionNumber; 4096],
+    steps: &[Step; MOST_STEPS],
+    turns: &[TransactionNumber; MOST_LISTED],
     to: &mut W,
-) -> io::Result<()> {
+) -> Result<io::Result<()>, Refusal> {
     let plan = setup.table.plan();
     let mut page = [0u8; 128];
-    if let Err(refusal) = pack(plan, &setup.values, &mut page) {
-        return show_fault(refusal, 0, to);
-    }
+    pack(plan, &setup.values, &mut page)?;
     let store = PackedStore::new(plan, &mut page);
     let rule = rule_of(setup.kind, &setup.table);
-    let step_count = setup.steps as usize;
-    let turn_count = match setup.turns {
-        Some(n) => n as usize,
-        None => 0,
-    };
+    let step_count = usize::from(setup.steps);
+    let turn_count = setup.turns.map_or(0, usize::from);
+    // By `match`: a closure for `map_err` would take the store, which holds a `&mut`, and the borrow checker does not cover that.
     match ScriptRun::start(
         rule,
         store,
-        &steps[0..step_count],
-        &turns[0..turn_count],
+        &steps[..step_count],
+        &turns[..turn_count],
         ALLOWANCE,
     ) {
-        Ok(run) => play(run, to),
-        Err(not) => show_fault(not.refusal, 0, to),
+        Ok(run) => Ok(play(run, to)),
+        Err(not) => Err(not.refusal),
+    }
+}
+
+pub(crate) fn run<W: Write>(
+    setup: &Setup,
+    steps: &[Step; MOST_STEPS],
+    turns: &[TransactionNumber; MOST_LISTED],
+    to: &mut W,
+) -> io::Result<()> {
+    match start(setup, steps, turns, to) {
+        Ok(shown) => shown,
+        Err(refusal) => show(to, |line| write_fault(refusal, 0, line)), // 0: of no line
     }
 }

@@ -7,14 +7,16 @@ mod story;
 use crate::story::{story, tell_order, tell_rows};
 use anyhow::anyhow;
 use basics::node::NodeNumber;
+use basics::set::NumberSet;
 use images::pack::pack;
 use images::packed::PackedStore;
 use plans::plan::Plan;
-use rules::rule::LockRule;
 use rules::tree::TreeRule;
 use session::state::Session;
+use std::iter;
 use stores::store::NodeStore;
 
+#[derive(Clone, Copy)]
 struct Entry {
     name: &'static str,
     width: u8,
@@ -105,99 +107,94 @@ pub(crate) const CLEARANCE: NodeNumber = NodeNumber(9);
 pub(crate) const TRUCKS: NodeNumber = NodeNumber(10);
 
 pub(crate) fn name(n: NodeNumber) -> &'static str {
-    if n.0 < 12 {
-        ENTRIES[n.0 as usize].name
-    } else {
-        "no node"
-    }
+    ENTRIES
+        .get(n.0 as usize)
+        .map_or("no node", |entry| entry.name)
 }
 
 // The parent under which the picture shows a node: the highest, since a node is numbered after all its parents.
 fn shown_under(plan: &Plan, n: NodeNumber) -> Option<NodeNumber> {
-    let mut highest = None;
-    for k in 0..64 {
-        if plan.parents(n).contains(NodeNumber(k)) {
-            highest = Some(NodeNumber(k));
-        }
-    }
-    highest
+    let parents = plan.parents(n);
+    (0..64)
+        .rev()
+        .map(NodeNumber)
+        .find(|&parent| parents.contains(parent))
 }
 
-fn depth(plan: &Plan, n: NodeNumber) -> u8 {
-    let mut at = n;
-    for depth in 0..64 {
-        match shown_under(plan, at) {
-            Some(parent) => at = parent,
-            None => return depth,
-        }
-    }
-    64
+fn depth(plan: &Plan, n: NodeNumber) -> usize {
+    iter::successors(shown_under(plan, n), |&parent| shown_under(plan, parent))
+        .take(64)
+        .count()
 }
 
 fn build() -> anyhow::Result<Plan> {
     let mut plan = Plan::new();
     for entry in &ENTRIES {
-        if plan.add(entry.width, entry.parents).is_err() {
-            return Err(anyhow!("a node of the plan is refused"));
-        }
+        plan.add(entry.width, entry.parents)
+            .map_err(|_| anyhow!("a node of the plan is refused"))?;
     }
     Ok(plan)
 }
 
-fn show_node(rt: &impl Print, plan: &Plan, n: NodeNumber) -> anyhow::Result<()> {
-    for _ in 0..depth(plan, n) {
-        print!(rt; "  ")?;
-    }
-    print!(rt; "{} {}, {} bits", n.0, name(n), plan.width(n))?;
-    let above = shown_under(plan, n);
-    for k in 0..n.0 {
-        if plan.parents(n).contains(NodeNumber(k)) && above != Some(NodeNumber(k)) {
-            print!(rt; ", also under {}", name(NodeNumber(k)))?;
-        }
-    }
-    println!(rt; "")?;
-    Ok(())
-}
-
-fn show(rt: &impl Print, plan: &Plan) -> anyhow::Result<()> {
-    println!(rt; "The plan has {} nodes:", plan.count())?;
-    for n in 0..plan.count() {
-        show_node(rt, plan, NodeNumber(n))?;
-    }
-    Ok(())
-}
-
-fn tell_below(rt: &impl Print, plan: &Plan, top: NodeNumber) -> anyhow::Result<()> {
-    let touched = plan.below(top);
-    println!(rt;
-        "A change of {} can touch these {} nodes:",
-        name(top),
-        touched.size()
-    )?;
-    for n in 0..plan.count() {
-        if touched.contains(NodeNumber(n)) {
-            println!(rt; "  {n} {}", name(NodeNumber(n)))?;
-        }
-    }
-    Ok(())
-}
-
 fn first_values() -> [i32; 12] {
-    let mut values = [0; 12];
-    for i in 0..12 {
-        values[i] = ENTRIES[i].value;
-    }
-    values
+    ENTRIES.map(|entry| entry.value)
 }
 
-// The bytes that hold the plan's fields, in hexadecimal.
-fn show_image(rt: &impl Print, plan: &Plan, image: &[u8]) -> anyhow::Result<()> {
-    let bits = plan.start(NodeNumber(plan.count())) as usize;
-    for byte in image.iter().take((bits + 7) / 8) {
-        print!(rt; " {byte:02X}")?;
+// The plan, and where it is shown.
+#[derive(Drop)]
+struct Picture<'p, P> {
+    rt: &'p P,
+    plan: &'p Plan,
+}
+
+impl<P: Print> Picture<'_, P> {
+    fn show_node(&self, n: NodeNumber) -> anyhow::Result<()> {
+        for _ in 0..depth(self.plan, n) {
+            print!(self.rt; "  ")?;
+        }
+        print!(self.rt; "{} {}, {} bits", n.0, name(n), self.plan.width(n))?;
+        let above = shown_under(self.plan, n);
+        for parent in (0..n.0).map(NodeNumber) {
+            if self.plan.parents(n).contains(parent) && above != Some(parent) {
+                print!(self.rt; ", also under {}", name(parent))?;
+            }
+        }
+        println!(self.rt; "")?;
+        Ok(())
     }
-    println!(rt; "")?;
-    Ok(())
+
+    fn show(&self) -> anyhow::Result<()> {
+        println!(self.rt; "The plan has {} nodes:", self.plan.count())?;
+        for n in (0..self.plan.count()).map(NodeNumber) {
+            self.show_node(n)?;
+        }
+        Ok(())
+    }
+
+    fn tell_below(&self, top: NodeNumber) -> anyhow::Result<()> {
+        let touched = self.plan.below(top);
+        println!(self.rt;
+            "A change of {} can touch these {} nodes:",
+            name(top),
+            touched.size()
+        )?;
+        for n in 0..self.plan.count() {
+            if touched.contains(NodeNumber(n)) {
+                println!(self.rt; "  {n} {}", name(NodeNumber(n)))?;
+            }
+        }
+        Ok(())
+    }
+
+    // The bytes that hold the plan's fields, in hexadecimal.
+    fn show_image(&self, image: &[u8]) -> anyhow::Result<()> {
+        let bits = self.plan.start(NodeNumber(self.plan.count())) as usize;
+        for byte in image.iter().take(bits.div_ceil(8)) {
+            print!(self.rt; " {byte:02X}")?;
+        }
+        println!(self.rt; "")?;
+        Ok(())
+    }
 }
 
 fn change(
@@ -225,14 +222,13 @@ fn change(
 
 fn run(rt: &impl Print) -> anyhow::Result<()> {
     let plan = build()?;
-    show(rt, &plan)?;
-    tell_below(rt, &plan, PHASE_SIX)?;
+    let picture = Picture { rt, plan: &plan };
+    picture.show()?;
+    picture.tell_below(PHASE_SIX)?;
     let mut page = [0u8; 128];
-    if pack(&plan, &first_values(), &mut page).is_err() {
-        return Err(anyhow!("a value does not fit its row"));
-    }
+    pack(&plan, &first_values(), &mut page).map_err(|_| anyhow!("a value does not fit its row"))?;
     print!(rt; "The image of the plan:")?;
-    show_image(rt, &plan, &page)?;
+    picture.show_image(&page)?;
     let mut store = PackedStore::new(&plan, &mut page);
     change(rt, &mut store, CLEARANCE, 30)?;
     change(rt, &mut store, CLEARANCE, 200)?;
@@ -242,7 +238,7 @@ fn run(rt: &impl Print) -> anyhow::Result<()> {
     let (_, store) = session.into_parts();
     tell_rows(rt, &store)?;
     print!(rt; "The image of the plan now:")?;
-    show_image(rt, &plan, store.into_image())
+    picture.show_image(store.into_image())
 }
 
 fn main(rt: HostRuntime) -> anyhow::Result<()> {

@@ -5,7 +5,7 @@ use anyhow::anyhow;
 use basics::node::NodeNumber;
 use basics::transaction::TransactionNumber;
 use rules::rule::LockRule;
-use session::answer::Answer;
+use session::answer::{Answer, Reply};
 use session::state::Session;
 use stores::store::NodeStore;
 use tickets::Ticket;
@@ -23,100 +23,80 @@ fn tell(
 ) -> anyhow::Result<()> {
     let who = engineer(ticket.number());
     match answer {
-        Answer::Done(_) => println!(rt; "{who} {deed} {}.", name(n))?,
-        Answer::Waiting(holder) => println!(rt;
+        Ok(Reply::Done(_)) => println!(rt; "{who} {deed} {}.", name(n))?,
+        Ok(Reply::Waiting(holder)) => println!(rt;
             "{who} waits for {}, which {} holds.",
             name(n),
             engineer(holder)
         )?,
-        Answer::Refused(refusal) => println!(rt;
-            "{who} is refused {}: reason {}.",
-            name(n),
-            refusal.code()
-        )?,
+        Err(refusal) => println!(rt; "{who} is refused {}: reason {}.", name(n), refusal.code())?,
     }
     Ok(())
 }
 
-fn lock<R: LockRule, S: NodeStore>(
-    rt: &impl Print,
-    session: &mut Session<R, S>,
-    ticket: &Ticket,
-    n: NodeNumber,
-) -> anyhow::Result<()> {
-    let answer = ticket.lock(session, n);
-    tell(rt, ticket, "locks", n, answer)
+// The session in which the two work, and where it is told.
+#[derive(Drop)]
+struct Scene<'p, 's, P, R, S> {
+    rt: &'p P,
+    session: &'s mut Session<R, S>,
 }
 
-fn set<R: LockRule, S: NodeStore>(
-    rt: &impl Print,
-    session: &mut Session<R, S>,
-    ticket: &Ticket,
-    n: NodeNumber,
-    v: i32,
-) -> anyhow::Result<()> {
-    let answer = ticket.write(session, n, v);
-    if let Answer::Done(_) = answer {
-        println!(rt; "{} sets {} to {v}.", engineer(ticket.number()), name(n))?;
-        return Ok(());
+impl<P: Print, R: LockRule, S: NodeStore> Scene<'_, '_, P, R, S> {
+    fn lock(&mut self, ticket: &Ticket, n: NodeNumber) -> anyhow::Result<()> {
+        let answer = ticket.lock(self.session, n);
+        tell(self.rt, ticket, "locks", n, answer)
     }
-    tell(rt, ticket, "sets", n, answer)
-}
 
-// Locks the rows from phase six down, and lets phase six go.
-fn take_rows<R: LockRule, S: NodeStore>(
-    rt: &impl Print,
-    session: &mut Session<R, S>,
-    ticket: &Ticket,
-) -> anyhow::Result<()> {
-    lock(rt, session, ticket, TRUCKS)?;
-    lock(rt, session, ticket, CLEARANCE)?;
-    let answer = ticket.release(session, PHASE_SIX);
-    tell(rt, ticket, "releases", PHASE_SIX, answer)
-}
+    fn set(&mut self, ticket: &Ticket, n: NodeNumber, v: i32) -> anyhow::Result<()> {
+        let answer = ticket.write(self.session, n, v);
+        if let Ok(Reply::Done(_)) = answer {
+            println!(self.rt; "{} sets {} to {v}.", engineer(ticket.number()), name(n))?;
+            return Ok(());
+        }
+        tell(self.rt, ticket, "sets", n, answer)
+    }
 
-fn anna_begins<R: LockRule, S: NodeStore>(
-    rt: &impl Print,
-    session: &mut Session<R, S>,
-    anna: &Ticket,
-    ben: &Ticket,
-) -> anyhow::Result<()> {
-    lock(rt, session, anna, PHASE_SIX)?;
-    lock(rt, session, ben, PHASE_SIX)?;
-    take_rows(rt, session, anna)?;
-    lock(rt, session, ben, PHASE_SIX)?;
-    lock(rt, session, ben, TRUCKS)?;
-    set(rt, session, anna, TRUCKS, 1)?;
-    set(rt, session, anna, CLEARANCE, 50)
-}
+    // Locks the rows from phase six down, and lets phase six go.
+    fn take_rows(&mut self, ticket: &Ticket) -> anyhow::Result<()> {
+        self.lock(ticket, TRUCKS)?;
+        self.lock(ticket, CLEARANCE)?;
+        let answer = ticket.release(self.session, PHASE_SIX);
+        tell(self.rt, ticket, "releases", PHASE_SIX, answer)
+    }
 
-fn ben_goes_on<R: LockRule, S: NodeStore>(
-    rt: &impl Print,
-    session: &mut Session<R, S>,
-    ben: &Ticket,
-) -> anyhow::Result<()> {
-    println!(rt; "Anna is done.")?;
-    take_rows(rt, session, ben)?;
-    set(rt, session, ben, TRUCKS, 0)?;
-    set(rt, session, ben, CLEARANCE, 20)?;
-    println!(rt; "Ben is done.")?;
-    Ok(())
+    fn anna_begins(&mut self, anna: &Ticket, ben: &Ticket) -> anyhow::Result<()> {
+        self.lock(anna, PHASE_SIX)?;
+        self.lock(ben, PHASE_SIX)?;
+        self.take_rows(anna)?;
+        self.lock(ben, PHASE_SIX)?;
+        self.lock(ben, TRUCKS)?;
+        self.set(anna, TRUCKS, 1)?;
+        self.set(anna, CLEARANCE, 50)
+    }
+
+    fn ben_goes_on(&mut self, ben: &Ticket) -> anyhow::Result<()> {
+        println!(self.rt; "Anna is done.")?;
+        self.take_rows(ben)?;
+        self.set(ben, TRUCKS, 0)?;
+        self.set(ben, CLEARANCE, 20)?;
+        println!(self.rt; "Ben is done.")?;
+        Ok(())
+    }
 }
 
 pub(crate) fn story<R: LockRule, S: NodeStore>(
     rt: &impl Print,
     session: &mut Session<R, S>,
 ) -> anyhow::Result<()> {
-    let Ok(anna) = Ticket::open(session) else {
-        return Err(anyhow!("no room for Anna"));
-    };
+    let anna = Ticket::open(session).map_err(|_| anyhow!("no room for Anna"))?;
+    // Not with `?`, since Anna's ticket has to be closed before the return.
     let Ok(ben) = Ticket::open(session) else {
         let _ = anna.close(session);
         return Err(anyhow!("no room for Ben"));
     };
-    let first = anna_begins(rt, session, &anna, &ben);
+    let first = Scene { rt, session }.anna_begins(&anna, &ben);
     let _ = anna.close(session);
-    let second = ben_goes_on(rt, session, &ben);
+    let second = Scene { rt, session }.ben_goes_on(&ben);
     let _ = ben.close(session);
     first?;
     second
@@ -128,17 +108,15 @@ pub(crate) fn tell_order<R: LockRule, S: NodeStore>(
     session: &Session<R, S>,
 ) -> anyhow::Result<()> {
     let mut order = [0u8; 32];
-    match session.order(&mut order) {
-        Ok(count) => {
-            print!(rt; "In the serial order:")?;
-            for t in order.iter().take(count as usize) {
-                print!(rt; " {}", engineer(TransactionNumber(*t)))?;
-            }
-            println!(rt; ".")?;
-            Ok(())
-        }
-        Err(_) => Err(anyhow!("the buffer is short")),
+    let count = session
+        .order(&mut order)
+        .map_err(|_| anyhow!("the buffer is short"))?;
+    print!(rt; "In the serial order:")?;
+    for t in order.iter().take(count as usize) {
+        print!(rt; " {}", engineer(TransactionNumber(*t)))?;
     }
+    println!(rt; ".")?;
+    Ok(())
 }
 
 pub(crate) fn tell_rows(rt: &impl Print, store: &impl NodeStore) -> anyhow::Result<()> {

@@ -1,8 +1,6 @@
 -- What holds of a session after whatever calls.
-use Rattle.std.proofs.Common.{◌≡◌, ℕ, ◌^◌, ◌<◌, ◌≤◌, ◌↔◌, List, [], length, get_or, replicate, None, Option, refl, ap, inl, inr, arith}
-use lib.ListN.{get_or-replicate, length-replicate}
-use Rattle.std.proofs.lemmas.List.{get_or_past}
-use Rattle.std.proofs.lemmas.Bool.{cases_lt}
+use Rattle.std.proofs.Common.{◌≡◌, ℕ, zero, suc, ◌^◌, ◌<◌, ◌≤◌, ◌↔◌, List, [], length, get_or, replicate, None, Option, refl, ap, arith}
+use lib.ListN.{length-replicate}
 use Rattle.basics.proofs.Masks.{no_member}
 use Rattle.basics.specs.declared.transaction.TransactionNumber.{TransactionNumber}
 use Rattle.rules.specs.Rule.{Rule}
@@ -47,35 +45,34 @@ pub record Inv (first : Store) (s : State) (C : ℕ → List ℕ) (A : List Acce
 pub all_begun : (s : State) → s.begun ≤ 32 → begun_count s ≡ s.begun
 all_begun s few = omega arith
 
--- an array of one element
-getD_same : {X : Type 0} (k i : ℕ) (x : X) → get_or (replicate k x) i x ≡ x
-getD_same k i x = elim (cases_lt i k) [
-  | inl h ↦ get_or-replicate k i x x h
-  | inr h ↦ get_or_past (replicate k x) i x (rw (length-replicate k x) h)
-]
+-- what stands at each place of an array of one element, and past its end
+pub get_or-replicated : {X : Type 0} (k i : ℕ) (x : X) → get_or (replicate k x) i x ≡ x
+get_or-replicated zero i x = refl
+get_or-replicated (suc k) zero x = refl
+get_or-replicated (suc k) (suc i) x = get_or-replicated k i x
 
 pub start_inv : (rule : Rule) (store : Store) → Inv store (start rule store) (λ n. []) []
 start_inv rule store = record {
   entry = λ t. 0;
   kept = start_kept rule (view (start rule store) (λ n. []) (λ t. 0) []) (λ n. refl)
-      (λ n t h. no_member n (rw (ap (λ r. r.locked.mask) (getD_same 32 t blank)) at h))
-      (λ n t h. no_member n (rw (ap (λ r. r.held.mask) (getD_same 32 t blank)) at h))
+      (λ n t h. no_member n (rw (ap (λ r. r.locked.mask) (get_or-replicated 32 t blank)) at h))
+      (λ n t h. no_member n (rw (ap (λ r. r.held.mask) (get_or-replicated 32 t blank)) at h))
       refl;
   few = omega arith;
   long_records = length-replicate 32 blank;
   long_holders = length-replicate {A = Option TransactionNumber} 64 None;
   long_lockers = length-replicate 64 (transactions 0);
   long_earlier = length-replicate 32 (transactions 0);
-  small = λ t. rw (getD_same 32 t blank) (omega arith);
+  small = λ t. rw (get_or-replicated 32 t blank) (omega arith);
   holder_is = λ n u. (
-    λ e. let z : ◌≡◌ {A = ℕ} 0 1 = cc (getD_same {X = Option TransactionNumber} 64 n None, e) in absurd (omega arith),
-    λ h. absurd (no_member n (rw (ap (λ r. r.held.mask) (getD_same 32 u blank)) at h)),
+    λ e. cc (get_or-replicated {X = Option TransactionNumber} 64 n None, e),
+    λ h. absurd (no_member n (rw (ap (λ r. r.held.mask) (get_or-replicated 32 u blank)) at h)),
   );
-  lockers_is = λ n u. (λ h. absurd (no_member u (rw (ap (λ x. x.mask) (getD_same 64 n (transactions 0))) at h)), λ i. absurd i);
-  earlier_is = λ t u. (λ h. absurd (no_member u (rw (ap (λ x. x.mask) (getD_same 32 t (transactions 0))) at h)), λ i. absurd i.1);
+  lockers_is = λ n u. (λ h. absurd (no_member u (rw (ap (λ x. x.mask) (get_or-replicated 64 n (transactions 0))) at h)), λ i. absurd i);
+  earlier_is = λ t u. (λ h. absurd (no_member u (rw (ap (λ x. x.mask) (get_or-replicated 32 t (transactions 0))) at h)), λ i. absurd i.1);
   begun_is = λ n t i. absurd i;
-  asks = λ t n w. let z : ◌≡◌ {A = ℕ} 0 1 = cc (ap (λ r. r.phase) (getD_same 32 t blank), w) in absurd (omega arith);
-  spent = λ t e. ap (λ r. r.held.mask) (getD_same 32 t blank);
+  asks = λ t n w. cc (ap (λ r. r.phase) (get_or-replicated 32 t blank), w);
+  spent = λ t e. ap (λ r. r.held.mask) (get_or-replicated 32 t blank);
   owned = tt;
   right = tt;
   same_store = refl;

@@ -1,5 +1,5 @@
 -- Holders and phases told apart.
-use Rattle.std.proofs.Common.{◌≡◌, ℕ, true, false, Some, None, Option, sym, ap, ◌∙◌, arith}
+use Rattle.std.proofs.Common.{◌≡◌, ℕ, true, false, Some, None, Option, sym, ap, ◌∙◌}
 use Rattle.std.proofs.lemmas.Bool.{false≢true}
 use Rattle.basics.specs.declared.node.NodeNumber.{NodeNumber}
 use Rattle.basics.specs.declared.transaction.TransactionNumber.{TransactionNumber}
@@ -9,7 +9,7 @@ use Rattle.model.specs.State.{node, transaction}
 use Rattle.model.specs.Checks.{is_ended, is_waiting}
 
 pub none_some : (o : Option TransactionNumber) (u : TransactionNumber) → o ≡ None → o ≡ Some u → ⊥
-none_some o u p q = let z : ◌≡◌ {A = ℕ} 0 1 = cc in omega arith
+none_some o u p q = cc
 
 pub same_holder : (o : Option TransactionNumber) (u v : ℕ) → o ≡ Some (transaction u) → o ≡ Some (transaction v) → u ≡ v
 same_holder o u v p q = let z : transaction u ≡ transaction v = cc in ap (λ x. x.0) z

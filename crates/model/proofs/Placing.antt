@@ -2,6 +2,7 @@
 use Rattle.std.proofs.Common.{◌≡◌, ℕ, zero, suc, ◌<◌, ◌≤◌, Bool, true, false, not, ◌⊎◌, ◌↔◌, List, [], ◌∷◌, length, Some, None, filter, Option, sym, refl, ap, ◌∙◌, inl, inr, arith}
 use mathlib.Core.Path.{subst⁻¹}
 use Rattle.std.proofs.lemmas.Bool.{cases_eq, cases_Bool, and_parts, and_from, not-true, not_from_false, both_ways}
+use Rattle.std.proofs.lemmas.List.Sums.{length-filter, count_by-le-length}
 use Rattle.basics.proofs.Masks.{with_members, within_members}
 use Rattle.basics.specs.Sets.{has, with_member, within}
 use Rattle.model.specs.Lists.{In, Before, Distinct}
@@ -39,23 +40,16 @@ in_long (x ∷ xs) t i = omega arith
 module _ (p q : ℕ → Bool) (part : (x : ℕ) → q x ≡ true → p x ≡ true) where
   kept_fewer : (xs : List ℕ) → length (filter q xs) ≤ length (filter p xs)
   kept_fewer [] = omega arith
-  kept_fewer (x ∷ xs) = elim (cases_Bool (q x)) [
-    | inl a ↦ simp (a, part x a) (omega (arith, kept_fewer xs))
-    | inr a ↦ elim (cases_Bool (p x)) [ inl b ↦ simp (a, b) (omega (arith, kept_fewer xs)) | inr b ↦ simp (a, b) (kept_fewer xs) ]
-  ]
+  kept_fewer (x ∷ xs) = let rest = kept_fewer xs in let here = part x in grind arith
 
   -- and one passes p alone
   kept_less : (xs : List ℕ) (t : ℕ) → In t xs → p t ≡ true → q t ≡ false → length (filter q xs) < length (filter p xs)
   kept_less [] t i a b = absurd i
-  kept_less (x ∷ xs) t (inl z) a b = simp (ap q (sym z) ∙ b, ap p (sym z) ∙ a) (omega (arith, kept_fewer xs))
-  kept_less (x ∷ xs) t (inr i) a b = elim (cases_Bool (q x)) [
-    | inl c ↦ simp (c, part x c) (omega (arith, kept_less xs t i a b))
-    | inr c ↦ elim (cases_Bool (p x)) [ inl d ↦ simp (c, d) (omega (arith, kept_less xs t i a b)) | inr d ↦ simp (c, d) (kept_less xs t i a b) ]
-  ]
+  kept_less (x ∷ xs) t (inl z) a b = let fewer = kept_fewer xs in grind arith
+  kept_less (x ∷ xs) t (inr i) a b = let less = kept_less xs t i a b in let here = part x in grind arith
 
 kept_short : (p : ℕ → Bool) (xs : List ℕ) → length (filter p xs) ≤ length xs
-kept_short p [] = omega arith
-kept_short p (x ∷ xs) = elim (cases_Bool (p x)) [ inl a ↦ simp a (omega (arith, kept_short p xs)) | inr a ↦ simp a (omega (arith, kept_short p xs)) ]
+kept_short p xs = omega (arith, length-filter p xs, count_by-le-length p xs)
 
 -- the lowest below k that passes, or none does
 pub lowest_cases : (p : ℕ → Bool) (k : ℕ)

@@ -1,5 +1,5 @@
 -- A replay goes node by node: only the order of the accesses at each node counts.
-use Rattle.std.proofs.Common.{◌≡◌, ℕ, eqb, List, [], ◌∷◌, ◌++◌, map, ℤ, ◌+ℤ◌, sym, refl, ap, ◌∙◌, ap₂, inl, inr}
+use Rattle.std.proofs.Common.{◌≡◌, ℕ, List, [], ◌∷◌, ◌++◌, map, ℤ, ◌+ℤ◌, sym, refl, ap, ◌∙◌, ap₂, inl, inr, arith}
 use Rattle.std.proofs.lemmas.Bool.{cases_eq, cases_Bool, eq-eqb, ne_eqb, cond-true, cond-false, cond_both}
 use Rattle.stores.specs.Store.{Store, in_range, set_value}
 use Rattle.model.specs.Calls.{Operation, read, write, adjust, done, in_bounds}
@@ -105,7 +105,7 @@ right_at (x ∷ A) n s s' a r = elim (cases_eq x.node n) [
 
 at_twice : (A : List Access) (n : ℕ) → at_node n (at_node n A) ≡ at_node n A
 at_twice [] n = refl
-at_twice (x ∷ A) n = elim (cases_Bool (eqb x.node n)) [ inl e ↦ simp e (ap (λ l. x ∷ l) (at_twice A n)) | inr e ↦ simp e (at_twice A n) ]
+at_twice (x ∷ A) n = let rest = at_twice A n in grind arith
 
 -- what is right at each node is right
 right_joined : (A : List Access) (s : Store) → ((n : ℕ) → Right s (at_node n A)) → Right s A

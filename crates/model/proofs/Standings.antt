@@ -1,6 +1,8 @@
 -- The phases, the holders and the count of a session are those that its history tells.
-use Rattle.std.proofs.Common.{◌≡◌, ℕ, zero, suc, ◌+◌, ◌<◌, Bool, true, false, cond, eqb, leb, List, [], ◌∷◌, ◌++◌, map, length, get_or, set, replicate, pos, Some, None, Option, sym, refl, ap, ◌∙◌, inl, inr, arith, get_or-set_other, get_or-set_same}
-use Rattle.std.proofs.lemmas.Bool.{cases_eq, cond-true, cond-false, eq-eqb, ne_eqb, leb-false}
+use Rattle.std.proofs.Common.{◌≡◌, ℕ, zero, suc, ◌+◌, ◌<◌, Bool, false, cond, eqb, leb, List, [], ◌∷◌, ◌++◌, map, length, get_or, set, pos, Some, None, Option, sym, refl, ap, ◌∙◌, arith, get_or-set_other}
+use Rattle.std.proofs.lemmas.Bool.Decides.{nat_tests}
+use Rattle.std.proofs.lemmas.Grind.{get_or-set_at}
+use Rattle.std.proofs.lemmas.Bool.{leb-false}
 use Rattle.basics.specs.declared.refusal.Refusal.{Refusal}
 use Rattle.rules.specs.Rule.{Rule}
 use Rattle.basics.specs.declared.transaction.TransactionNumber.{TransactionNumber}
@@ -11,35 +13,25 @@ use Rattle.model.specs.declared.table.Record.{Record}
 use Rattle.model.specs.Calls.{Call, begin, lock, release, access, withdraw, end, Answer, done, waiting, refused, Event, first_refusal, unless_refused}
 use Rattle.model.specs.Checks.{lock_checks, use_checks, withdraw_checks, end_checks, begin_checks, grant_or_wait, answer}
 use Rattle.model.specs.State.{State, transaction, blank, phase, holder, count, begun_count, start}
-use Rattle.model.specs.Step.{after, freed, Run, step, run, session}
+use Rattle.model.specs.Step.{after, when_done, when_waiting, freed, Run, step, run, session}
 use Rattle.model.specs.Standing.{phase_after, phase_told, phase_in, holder_without, holder_after, holder_told, holder_in, begins, begun_in}
-use Rattle.model.proofs.Inv.{start_inv}
+use Rattle.model.proofs.Inv.{get_or-replicated, start_inv}
 use Rattle.model.proofs.Steps.{Holding, step_holds}
 use Rattle.model.proofs.Refusing.{Passed, refused_cases, alike_cases}
 
 cond_same : {X : Type 0} (b : Bool) (x : X) → cond b x x ≡ x
-cond_same true x = refl
-cond_same false x = refl
+cond_same b x = grind arith
 
 -- one element of a list is replaced
 at_set : {X : Type 0} (xs : List X) (i k : ℕ) (x d : X) → i < length xs → get_or (set xs i x) k d ≡ cond (eqb k i) x (get_or xs k d)
-at_set xs i k x d l = elim (cases_eq k i) [
-  | inl q ↦ ap (λ j. get_or (set xs i x) j d) q ∙ get_or-set_same xs i x d l ∙ sym (cond-true (eqb k i) x (get_or xs k d) (eq-eqb k i q))
-  | inr ne ↦ get_or-set_other xs i k x d ne ∙ sym (cond-false (eqb k i) x (get_or xs k d) (ne_eqb k i ne))
-]
+at_set xs i k x d l = grind (arith, nat_tests, get_or-set_at, get_or-set_other)
 
 phase_set : (rs : List Record) (u t : ℕ) (r : Record) → u < length rs → (get_or (set rs u r) t blank).phase ≡ cond (eqb t u) r.phase (get_or rs t blank).phase
-phase_set rs u t r l = elim (cases_eq t u) [
-  | inl q ↦ ap (λ x. x.phase) (at_set rs u t r blank l ∙ cond-true (eqb t u) r (get_or rs t blank) (eq-eqb t u q)) ∙ sym (cond-true (eqb t u) r.phase (get_or rs t blank).phase (eq-eqb t u q))
-  | inr ne ↦ ap (λ x. x.phase) (at_set rs u t r blank l ∙ cond-false (eqb t u) r (get_or rs t blank) (ne_eqb t u ne)) ∙ sym (cond-false (eqb t u) r.phase (get_or rs t blank).phase (ne_eqb t u ne))
-]
+phase_set rs u t r l = let e = ap (λ x. x.phase) (at_set rs u t r blank l) in grind (arith, nat_tests)
 
 -- a record that keeps its phase
 phase_same : (rs : List Record) (u t : ℕ) (r : Record) → u < length rs → r.phase ≡ (get_or rs u blank).phase → (get_or (set rs u r) t blank).phase ≡ (get_or rs t blank).phase
-phase_same rs u t r l e = phase_set rs u t r l ∙ elim (cases_eq t u) [
-  | inl q ↦ cond-true (eqb t u) r.phase (get_or rs t blank).phase (eq-eqb t u q) ∙ e ∙ ap (λ j. (get_or rs j blank).phase) (sym q)
-  | inr ne ↦ cond-false (eqb t u) r.phase (get_or rs t blank).phase (ne_eqb t u ne)
-]
+phase_same rs u t r l e = let set = phase_set rs u t r l in grind (arith, nat_tests)
 
 freed_map : (u : ℕ) (hs : List (Option TransactionNumber)) (n : ℕ) → get_or (map (freed u) hs) n None ≡ holder_without u (get_or hs n None)
 freed_map u [] n = refl
@@ -105,38 +97,19 @@ holder_step s long (end u) n = refusing (HolderKept s (end u) n) (end_checks s u
 abbrev BegunKept : State → Call → Answer → Type 0
 BegunKept s c a = (after s c a).begun ≡ s.begun + begins c a
 
+-- a call other than a begin
+none_begun : (s : State) (c : Call) (a : Answer) → (when_done s c).begun ≡ s.begun → (when_waiting s c).begun ≡ s.begun → (after s c a).begun ≡ s.begun
+none_begun s c (done x) d w = d
+none_begun s c (waiting v) d w = w
+none_begun s c (refused k) d w = refl
+
 begun_step : (s : State) (c : Call) → BegunKept s c (answer s c)
 begun_step s begin = refusing (BegunKept s begin) (begin_checks s) (done (pos s.begun)) (λ k. omega arith) (λ p. refl)
-begun_step s (lock u m) = any (answer s (lock u m))
-  where
-    any : (a : Answer) → BegunKept s (lock u m) a
-    any (done x) = omega arith
-    any (waiting v) = omega arith
-    any (refused k) = omega arith
-begun_step s (release u m) = any (answer s (release u m))
-  where
-    any : (a : Answer) → BegunKept s (release u m) a
-    any (done x) = omega arith
-    any (waiting v) = omega arith
-    any (refused k) = omega arith
-begun_step s (access u m op) = any (answer s (access u m op))
-  where
-    any : (a : Answer) → BegunKept s (access u m op) a
-    any (done x) = omega arith
-    any (waiting v) = omega arith
-    any (refused k) = omega arith
-begun_step s (withdraw u) = any (answer s (withdraw u))
-  where
-    any : (a : Answer) → BegunKept s (withdraw u) a
-    any (done x) = omega arith
-    any (waiting v) = omega arith
-    any (refused k) = omega arith
-begun_step s (end u) = any (answer s (end u))
-  where
-    any : (a : Answer) → BegunKept s (end u) a
-    any (done x) = omega arith
-    any (waiting v) = omega arith
-    any (refused k) = omega arith
+begun_step s (lock u m) = omega (arith, none_begun s (lock u m) (answer s (lock u m)) refl refl)
+begun_step s (release u m) = omega (arith, none_begun s (release u m) (answer s (release u m)) refl refl)
+begun_step s (access u m op) = omega (arith, none_begun s (access u m op) (answer s (access u m op)) refl refl)
+begun_step s (withdraw u) = omega (arith, none_begun s (withdraw u) (answer s (withdraw u)) refl refl)
+begun_step s (end u) = omega (arith, none_begun s (end u) (answer s (end u)) refl refl)
 
 -- one more event
 phase_push : (p : Phase) (h : List Event) (e : Event) (t : ℕ) → phase_told p (h ++ (e ∷ [])) t ≡ phase_after (phase_told p h t) e.call e.answer t
@@ -170,11 +143,6 @@ told_run : (first : Store) (cs : List Call) (r : Run) → Holding first r → To
 told_run first [] r here told = told
 told_run first (c ∷ cs) r here told = told_run first cs (step r c) (step_holds first r here c) (told_step first r here told c)
 
-getD_all : {X : Type 0} (k i : ℕ) (x : X) → get_or (replicate k x) i x ≡ x
-getD_all zero i x = refl
-getD_all (suc k) zero x = refl
-getD_all (suc k) (suc i) x = getD_all k i x
-
 pub every_run_told : (rule : Rule) (store : Store) (cs : List Call) → Told (session rule store cs)
 every_run_told rule store cs =
-    told_run store cs (record { state = start rule store; log = [] }) (start_inv rule store) (record { phases = λ t. ap (λ x. x.phase) (getD_all 32 t blank); holders = λ n. getD_all 64 n None; begun = refl })
+    told_run store cs (record { state = start rule store; log = [] }) (start_inv rule store) (record { phases = λ t. ap (λ x. x.phase) (get_or-replicated 32 t blank); holders = λ n. get_or-replicated 64 n None; begun = refl })

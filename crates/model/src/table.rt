@@ -2,7 +2,7 @@
 use basics::node::{NodeNumber, NodeSet};
 
 // How a transaction stands.
-#[derive(Clone, Copy, Drop)]
+#[derive(Clone, Copy, PartialEq, Eq, Debug, Drop)]
 pub enum Phase {
     Open,
     Waiting(NodeNumber),
@@ -10,7 +10,7 @@ pub enum Phase {
 }
 
 // All nodes that the transaction has ever locked, and those that it still holds.
-#[derive(Clone, Copy, Drop)]
+#[derive(Clone, Copy, PartialEq, Debug, Drop)]
 pub struct Record {
     pub phase: Phase,
     pub locked: NodeSet,

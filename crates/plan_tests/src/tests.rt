@@ -1,8 +1,8 @@
-ghost use Rattle.std.specs.Prelude.{ℕ};
 ghost use Rattle.plan_tests.specs.Ring.{ring_edge};
 
 use basics::node::{NodeNumber, NodeSet};
 use basics::refusal::Refusal;
+use basics::set::NumberSet;
 use graph::{Graph, reach};
 use plans::plan::Plan;
 use std::test::Fail;
@@ -80,8 +80,8 @@ fn has_a_node_under_two_parents(rt: HostRuntime) -> Result<(), Fail> {
 fn takes_64_nodes_in_a_chain(rt: HostRuntime) -> Result<(), Fail> {
     let mut plan = Plan::new();
     plan.add(16, &[])?;
-    for n in 0..63 {
-        plan.add(16, &[NodeNumber(n)])?;
+    for parent in (0..63).map(NodeNumber) {
+        plan.add(16, &[parent])?;
     }
     assert_eq!(rt;
         plan.add(16, &[NodeNumber(63)]),
@@ -97,23 +97,30 @@ fn takes_64_nodes_in_a_chain(rt: HostRuntime) -> Result<(), Fail> {
 struct Ring;
 
 impl Graph for Ring {
+    type Points = NodeSet;
+
     ghost edge = { λ _. ring_edge };
 
-    fn successors(&self, point: u8) -> u64 {
-        match point {
+    fn successors(&self, point: NodeNumber) -> NodeSet {
+        let mask = match point.0 {
             0 => 2,
             1 => 4,
             2 => 1,
             63 => 1 << 63,
             _ => 0,
-        }
+        };
+        NodeSet { mask }
     }
+}
+
+fn reached(mask: u64) -> u64 {
+    reach(&Ring, NodeSet { mask }).mask
 }
 
 #[test]
 fn ends_in_a_loop(rt: HostRuntime) {
-    assert_eq!(rt; reach(&Ring, 2), 7);
-    assert_eq!(rt; reach(&Ring, 1 << 63), 1 << 63);
-    assert_eq!(rt; reach(&Ring, 8), 8);
-    assert_eq!(rt; reach(&Ring, 0), 0);
+    assert_eq!(rt; reached(2), 7);
+    assert_eq!(rt; reached(1 << 63), 1 << 63);
+    assert_eq!(rt; reached(8), 8);
+    assert_eq!(rt; reached(0), 0);
 }

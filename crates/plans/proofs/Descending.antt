@@ -1,6 +1,6 @@
 -- Children, chains of parents, and the two ways to find the nodes below a node.
-use Rattle.std.proofs.Common.{◌≡◌, ℕ, zero, suc, ◌+◌, ◌<◌, ◌≤◌, Bool, true, false, ◌&&◌, ◌||◌, eqb, ltb, ◌↔◌, List, length, get_or, take, sym, ap, ◌∙◌, subst, inl, inr, arith}
-use Rattle.std.proofs.lemmas.List.{get_or_past, get_or-take}
+use Rattle.std.proofs.Common.{◌≡◌, ℕ, zero, suc, ◌+◌, ◌<◌, ◌≤◌, Bool, true, false, ◌&&◌, ◌||◌, eqb, ltb, ◌↔◌, List, length, sym, ap, ◌∙◌, subst, inl, inr, arith}
+use Rattle.std.proofs.lemmas.List.{get_or_past}
 use Rattle.std.proofs.lemmas.Bool.{cases_Bool, cases_eq, cases_lt, and_parts, and_from, eqb-true, eq-eqb, lt-ltb, or_cases, or_left, or_right, both_ways, cond-true, cond-false}
 use Rattle.std.proofs.lemmas.Bool.Decides.{nat_tests, same_from_decides}
 use Rattle.basics.specs.Sets.{has, with_member, meets}
@@ -60,12 +60,6 @@ reached_below nodes n r l few found k =
 -- parents are lower than their child
 abbrev pub Lower : List Node → Type 0
 Lower nodes = (k p : ℕ) → is_parent nodes p k ≡ true → p < k
-
-pub lower_among : (count : ℕ) (nodes : List Node) → length (take count nodes) ≡ count → ((n p : ℕ) → ((n < count) × (has (get_or nodes n no_node).parents.mask p ≡ true)) → p < n) → Lower (take count nodes)
-lower_among count nodes size lower k p up = elim (cases_lt k count) [
-  | inl l ↦ lower k p (l, ap (λ x. has x.parents.mask p) (sym (get_or-take count nodes k no_node l)) ∙ up)
-  | inr past ↦ absurd (both_ways (is_parent (take count nodes) p k) (no_child (take count nodes) p k (omega arith)) up)
-]
 
 -- the nodes that a pass over the first m nodes has to find
 abbrev Among : List Node → ℕ → ℕ → ℕ → Type 0

@@ -1,7 +1,12 @@
 -- A plan with one node more keeps its properties.
-use Rattle.std.proofs.Common.{◌≡◌, ℕ, ◌<◌, ◌≤◌, true, not, ◌||◌, eqb, leb, List, length, None, inl, inr, arith}
-use Rattle.std.proofs.lemmas.Bool.{and_parts, leb-true, leb-false, eqb-false, or_cases, or_parts, not-true, not-false, eqb-true}
+use Rattle.std.proofs.Common.{◌≡◌, ◌≢◌, ℕ, ◌<◌, ◌≤◌, true, not, ◌||◌, eqb, leb, List, [], ◌∷◌, ◌++◌, length, get_or, Option, Some, None, Ok, inl, inr, refl, sym, ◌∙◌, subst, arith, length-append}
+use Rattle.std.proofs.Math.ListN.{get_or-append}
+use Rattle.std.proofs.Math.Seq.{get_or-append_seam}
+use Rattle.std.proofs.lemmas.List.{get_or_past}
+use Rattle.std.proofs.lemmas.Bool.{cases_eq, cases_lt, and_parts, leb-true, leb-false, eqb-false, or_cases, or_parts, not-true, not-false, eqb-true}
 use Rattle.basics.specs.declared.node.NodeNumber.{NodeNumber}
+use Rattle.basics.specs.declared.refusal.Refusal.{Refusal}
+use Rattle.basics.specs.Refusals.{answer_unless}
 use Rattle.basics.specs.declared.refusal.Refusal.TheVariants.{LimitExceeded, BadParents}
 use Rattle.basics.proofs.Refusing.{none_applies, none_holds}
 use Rattle.basics.specs.Lists.{all_below, rising}
@@ -15,6 +20,11 @@ pub record Accepted (count width : ℕ) (parents : List NodeNumber) : Type 0 whe
   pub slim : width ≤ 16
   pub lower : all_below count parents ≡ true
   pub some : 0 < count → length parents ≡ 0 → ⊥
+
+-- a call that is not refused meets no refusal
+pub none_refused : {A : Type 0} (r : Option Refusal) (a b : A) → Ok a ≡ answer_unless r b → r ≡ None
+none_refused None a b h = refl
+none_refused (Some e) a b h = cc
 
 pub accepted : (nodes : List Node) (width : ℕ) (parents : List NodeNumber) → node_refusal nodes width parents ≡ None → Accepted (length nodes) width parents
 accepted nodes width parents e =
@@ -33,3 +43,16 @@ accepted nodes width parents e =
         | inr some ↦ eqb-false (length parents) 0 (not-true _ some) none
       ];
     }
+
+-- what holds of each of the elements, and of a new one put after them, holds of them all
+pub each_added : {X : Type 0} (P : ℕ → X → Type 0) (none : X) (xs : List X) (new : X) → ((n : ℕ) → n ≢ length xs → P n (get_or xs n none)) → P (length xs) new → (n : ℕ) → P n (get_or (xs ++ new ∷ []) n none)
+each_added P none xs new old here n = elim (cases_eq n (length xs)) [
+  | inl q ↦ rw (q, get_or-append_seam) here
+  | inr ne ↦ subst (P n) (sym (other ne)) (old n ne)
+]
+  where
+    other : n ≢ length xs → get_or (xs ++ new ∷ []) n none ≡ get_or xs n none
+    other ne = elim (cases_lt n (length xs)) [
+      | inl l ↦ get_or-append xs (new ∷ []) none n l
+      | inr past ↦ get_or_past (xs ++ new ∷ []) n none (omega (arith, length-append xs (new ∷ []))) ∙ sym (get_or_past xs n none past)
+    ]

@@ -2,3 +2,4 @@ pub mod Building
 pub mod Descent
 pub mod Meaning
 pub mod Nodes
+pub mod Placed

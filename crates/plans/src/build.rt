@@ -1,11 +1,12 @@
 // Building a plan, and asking for its nodes.
-ghost use Rattle.std.specs.Prelude.{◌≡◌, ℕ, [], length};
+ghost use Rattle.std.specs.Prelude.{◌≡◌, [], length};
 ghost use Rattle.basics.specs.Refusals.{answer_unless, leave_unless};
 ghost use Rattle.plans.specs.Building.{good_width, good_parents, node_refusal, with_node};
 ghost use Rattle.plans.specs.Meaning.{nodes_of};
 ghost use Rattle.plans.specs.Nodes.{node_at, field_start};
 
-use crate::plan::{Node, Plan};
+use crate::plan::{Node, PlacedNode, Plan};
+use arrayvec::ArrayVec;
 use basics::list::{all_below, is_rising, set_of};
 use basics::node::{NodeNumber, NodeSet};
 use basics::refusal::Refusal;
@@ -13,13 +14,13 @@ use basics::refusal::Refusal;
 fn good_width(width: u8) -> bool
     ensures { result ≡ good_width width }
 {
-    2 <= width && width <= 16
+    (2..=16).contains(&width)
 }
 
 fn good_parents(n: u8, parents: &[NodeNumber]) -> bool
     ensures { result ≡ good_parents n parents.now }
 {
-    is_rising(parents) && all_below(parents, n) && (n == 0 || parents.len() != 0)
+    is_rising(parents) && all_below(parents, n) && (n == 0 || !parents.is_empty())
 }
 
 impl Plan {
@@ -28,31 +29,27 @@ impl Plan {
         ensures { nodes_of result ≡ [] }
     {
         Plan {
-            count: 0,
-            starts: [0; 65],
-            nodes: [Node {
-                width: 0,
-                parents: NodeSet { mask: 0 },
-            }; 64],
+            nodes: ArrayVec::new(),
         }
     }
 
     pub fn count(&self) -> u8
         ensures { result ≡ length (nodes_of self.now) }
     {
-        self.count // at most 64
+        self.nodes.len() as u8 // at most 64
     }
 
     fn node(&self, n: NodeNumber) -> Node
         ensures { result ≡ node_at (nodes_of self.now) n.0 }
     {
-        if n.0 < self.count {
-            self.nodes[n.0 as usize]
-        } else {
-            Node {
-                width: 0,
-                parents: NodeSet { mask: 0 },
-            }
+        let placed = self
+            .nodes
+            .get(usize::from(n.0))
+            .copied()
+            .unwrap_or_default();
+        Node {
+            width: placed.width,
+            parents: placed.parents,
         }
     }
 
@@ -75,23 +72,33 @@ impl Plan {
     pub fn start(&self, n: NodeNumber) -> u16
         ensures { result ≡ field_start (nodes_of self.now) n.0 }
     {
-        if n.0 < self.count {
-            self.starts[n.0 as usize]
-        } else {
-            self.starts[self.count as usize]
+        match self.nodes.get(usize::from(n.0)) {
+            Some(placed) => placed.start,
+            None => self.end(),
         }
     }
 
-    fn refusal(&self, width: u8, parents: &[NodeNumber]) -> Option<Refusal>
-        ensures { result ≡ node_refusal (nodes_of self.now) width parents.now }
+    // Where the last field ends.
+    fn end(&self) -> u16
+        ensures { result ≡ field_start (nodes_of self.now) (length (nodes_of self.now)) }
     {
-        if self.count >= 64 || !good_width(width) {
-            return Some(Refusal::LimitExceeded);
+        match self.nodes.last() {
+            Some(last) => last.start + u16::from(last.width),
+            None => 0,
         }
-        if !good_parents(self.count, parents) {
-            return Some(Refusal::BadParents);
+    }
+
+    // Refuses a node that may not be added.
+    fn check_node(&self, width: u8, parents: &[NodeNumber]) -> Result<(), Refusal>
+        ensures { result ≡ answer_unless (node_refusal (nodes_of self.now) width parents.now) tt }
+    {
+        if self.nodes.is_full() || !good_width(width) {
+            return Err(Refusal::LimitExceeded);
         }
-        None
+        if !good_parents(self.count(), parents) {
+            return Err(Refusal::BadParents);
+        }
+        Ok(())
     }
 
     // Adds a node below the listed parents, and answers its number.
@@ -99,16 +106,14 @@ impl Plan {
         ensures answers { result ≡ answer_unless (node_refusal (nodes_of self.old) width parents.now) (record { 0 = length (nodes_of self.old) }) }
         ensures leaves { nodes_of self.new ≡ leave_unless (node_refusal (nodes_of self.old) width parents.now) (nodes_of self.old) (with_node (nodes_of self.old) width parents.now) }
     {
-        if let Some(refusal) = self.refusal(width, parents) {
-            return Err(refusal);
-        }
-        let n = self.count;
-        self.nodes[n as usize] = Node {
+        self.check_node(width, parents)?;
+        let n = self.count();
+        let placed = PlacedNode {
             width,
+            start: self.end(),
             parents: set_of(parents),
         };
-        self.starts[n as usize + 1] = self.starts[n as usize] + width as u16;
-        self.count = n + 1;
+        self.nodes.push(placed);
         Ok(NodeNumber(n))
     }
 }

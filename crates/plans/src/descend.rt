@@ -7,6 +7,7 @@ ghost use Rattle.plans.specs.Nodes.{is_parent};
 
 use crate::plan::Plan;
 use basics::node::{NodeNumber, NodeSet};
+use basics::set::NumberSet;
 use graph::{Graph, reach};
 
 impl Plan {
@@ -15,9 +16,9 @@ impl Plan {
         ensures { (k : ℕ) → has result.mask k ≡ is_parent (nodes_of self.now) n.0 k }
     {
         let mut children = NodeSet::empty();
-        for k in 0..self.count {
-            if self.parents(NodeNumber(k)).contains(n) {
-                children = children.with(NodeNumber(k));
+        for (k, node) in self.nodes.iter().enumerate() {
+            if node.parents.contains(n) {
+                children = children.with(NodeNumber(k as u8));
             }
         }
         children
@@ -28,20 +29,20 @@ impl Plan {
         ensures set { result.mask ≡ below_set (nodes_of self.now) n.0 }
         ensures chain { (k : ℕ) → (has result.mask k ≡ true) ↔ Below (nodes_of self.now) n.0 k }
     {
-        if n.0 >= self.count {
+        if n.0 >= self.count() {
             return NodeSet::empty();
         }
-        NodeSet {
-            mask: reach(self, NodeSet::empty().with(n).mask),
-        }
+        reach(self, NodeSet::empty().with(n))
     }
 }
 
 // A plan as a graph whose edges lead from a parent to its child.
 impl Graph for Plan {
+    type Points = NodeSet;
+
     ghost edge = { λ p i j. is_parent (nodes_of p) i j };
 
-    fn successors(&self, point: u8) -> u64 {
-        self.children(NodeNumber(point)).mask
+    fn successors(&self, point: NodeNumber) -> NodeSet {
+        self.children(point)
     }
 }

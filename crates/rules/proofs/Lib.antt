@@ -1,2 +1,2 @@
+mod Crossing
 mod Growing
-mod Stepping

@@ -1,5 +1,6 @@
 -- Guards of nodes: when one lets a transaction lock its node, and what a table asks of its guards.
-use Rattle.std.specs.Prelude.{ℕ, Bool, true, false, not, ◌&&◌, ◌||◌, List, [], ◌∷◌, ◌==◌}
+use Rattle.std.specs.Prelude.{ℕ, Bool, not, ◌&&◌, ◌||◌, List, ◌==◌}
+use Rattle.std.specs.List.{list_any, list_all}
 use Rattle.basics.specs.Sets.{within, meets}
 use Rattle.rules.specs.declared.guard.Guard.{Guard}
 
@@ -13,8 +14,7 @@ admits g n locked held = g.node.0 == n && (within g.a.mask locked && within g.b.
 
 -- one of the guards admits
 abbrev pub some_admits : ℕ → ℕ → ℕ → List Guard → Bool
-some_admits n locked held [] = false
-some_admits n locked held (g ∷ gs) = admits g n locked held || some_admits n locked held gs
+some_admits n locked held guards = list_any (λ g. admits g n locked held) guards
 
 -- B has members and lies in A, and A lies in the parents
 abbrev pub fits : ℕ → Guard → Bool
@@ -30,5 +30,4 @@ compatible x y = crosses x y && crosses y x
 
 -- g is compatible with each of the guards
 abbrev pub all_compatible : Guard → List Guard → Bool
-all_compatible g [] = true
-all_compatible g (x ∷ xs) = compatible g x && all_compatible g xs
+all_compatible g guards = list_all (compatible g) guards

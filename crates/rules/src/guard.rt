@@ -1,13 +1,15 @@
-ghost use Rattle.std.specs.Prelude.{◌≡◌, ℕ, ◌<◌, ◌≤◌, true, length, slice_index_or};
+ghost use Rattle.std.specs.Prelude.{◌≡◌, ◌<◌, ◌≤◌, true, length, All};
+ghost use Rattle.arrayvec.specs.ArrayVec.{array_vec_len};
 ghost use Rattle.plans.specs.Meaning.{nodes_of};
-ghost use Rattle.rules.specs.Guards.{no_guard, fits, crosses};
+ghost use Rattle.rules.specs.Guards.{fits, crosses};
 ghost use Rattle.rules.specs.Parents.{parents_in};
 
+use arrayvec::ArrayVec;
 use basics::node::{NodeNumber, NodeSet};
 use plans::plan::Plan;
 
 // A way to lock a node: after all of `a` was locked, and while all of `b` is held.
-#[derive(Clone, Copy, Drop)]
+#[derive(Clone, Copy, PartialEq, Debug, Default, Drop)]
 pub struct Guard {
     pub node: NodeNumber,
     pub a: NodeSet,
@@ -19,11 +21,9 @@ pub struct Guard {
 #[derive(Drop)]
 pub struct GuardTable {
     pub(crate) plan: Plan,
-    pub(crate) guards: [Guard; 256],
-    pub(crate) len: u16,
-    ghost few: { len ≤ 256 },
-    ghost long: { length guards ≡ 256 },
-    ghost known: { (i : ℕ) → i < len → (slice_index_or guards i no_guard).node.0 < length (nodes_of plan) },
-    ghost fit: { (i : ℕ) → i < len → fits (parents_in (nodes_of plan) (slice_index_or guards i no_guard).node.0) (slice_index_or guards i no_guard) ≡ true },
-    ghost cross: { (i j : ℕ) → ((i < len) × (j < len)) → crosses (slice_index_or guards i no_guard) (slice_index_or guards j no_guard) ≡ true },
+    pub(crate) guards: ArrayVec<Guard, 256>,
+    ghost few: { array_vec_len guards ≤ 256 },
+    ghost known: { All (λ g. g.node.0 < length (nodes_of plan)) guards.items },
+    ghost fit: { All (λ g. fits (parents_in (nodes_of plan) g.node.0) g ≡ true) guards.items },
+    ghost cross: { All (λ x. All (λ y. crosses x y ≡ true) guards.items) guards.items },
 }

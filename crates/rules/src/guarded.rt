@@ -7,6 +7,7 @@ ghost use Rattle.rules.specs.Meaning.{guards_of};
 use crate::guard::{Guard, GuardTable};
 use crate::rule::LockRule;
 use basics::node::{NodeNumber, NodeSet};
+use basics::set::NumberSet;
 
 #[derive(Clone, Copy, Drop)]
 pub struct GuardRule<'p> {
@@ -17,7 +18,7 @@ impl Guard {
     fn admits(self, n: NodeNumber, locked: NodeSet, held: NodeSet) -> bool
         ensures { result ≡ admits self n.0 locked.mask held.mask }
     {
-        self.node.0 == n.0 && self.a.is_subset(locked) && self.b.is_subset(held)
+        self.node == n && self.a.is_subset(locked) && self.b.is_subset(held)
     }
 }
 
@@ -26,12 +27,9 @@ impl GuardTable {
     fn admits(&self, n: NodeNumber, locked: NodeSet, held: NodeSet) -> bool
         ensures { result ≡ some_admits n.0 locked.mask held.mask (guards_of self.now) }
     {
-        for i in 0..self.len {
-            if self.guards[i as usize].admits(n, locked, held) {
-                return true;
-            }
-        }
-        false
+        self.guards
+            .iter()
+            .any(|guard| guard.admits(n, locked, held))
     }
 }
 

@@ -5,6 +5,7 @@ ghost use Rattle.rules.specs.PlanRules.{majority_rule};
 
 use crate::rule::LockRule;
 use basics::node::{NodeNumber, NodeSet};
+use basics::set::NumberSet;
 use plans::plan::Plan;
 
 #[derive(Clone, Copy, Drop)]
@@ -18,6 +19,8 @@ fn most_held(parents: NodeSet, held: NodeSet) -> bool
     2 * parents.intersection(held).size() > parents.size()
 }
 
+// The methods read as those of the tree rule, and `allows` as that of the guard rule: a trait for the test in which they differ
+// would be longer than they are.
 impl LockRule for MajorityRule<'_> {
     ghost rule = { λ s. majority_rule s.plan.now };
 

@@ -3,14 +3,16 @@ ghost use Rattle.std.specs.Prelude.{◌≡◌, [], length};
 ghost use Rattle.basics.specs.Refusals.{answer_unless, leave_unless};
 ghost use Rattle.plans.specs.Building.{node_refusal, with_node};
 ghost use Rattle.plans.specs.Meaning.{nodes_of};
-ghost use Rattle.rules.specs.Adding.{guard_from, in_limits, guard_refusal, with_guard};
+ghost use Rattle.rules.specs.Adding.{in_limits, guard_refusal, with_guard};
 ghost use Rattle.rules.specs.Guards.{fits, crosses, compatible, all_compatible};
 ghost use Rattle.rules.specs.Meaning.{guards_of};
 
 use crate::guard::{Guard, GuardTable};
+use arrayvec::ArrayVec;
 use basics::list::{all_below, is_rising, set_of};
 use basics::node::{NodeNumber, NodeSet};
 use basics::refusal::Refusal;
+use basics::set::NumberSet;
 use plans::plan::Plan;
 
 impl Guard {
@@ -24,7 +26,7 @@ impl Guard {
     fn crosses(self, other: Guard) -> bool
         ensures { result ≡ crosses self other }
     {
-        self.node.0 != other.node.0 || !self.a.intersection(other.b).is_empty()
+        self.node != other.node || !self.a.intersection(other.b).is_empty()
     }
 
     fn compatible(self, other: Guard) -> bool
@@ -42,12 +44,7 @@ impl GuardTable {
     {
         GuardTable {
             plan,
-            guards: [Guard {
-                node: NodeNumber(0),
-                a: NodeSet { mask: 0 },
-                b: NodeSet { mask: 0 },
-            }; 256],
-            len: 0,
+            guards: ArrayVec::new(),
         }
     }
 
@@ -70,36 +67,33 @@ impl GuardTable {
     pub fn count(&self) -> u16
         ensures { result ≡ length (guards_of self.now) }
     {
-        self.len // at most 256
+        self.guards.len() as u16 // at most 256
     }
 
     fn in_limits(&self, node: NodeNumber, a: &[NodeNumber], b: &[NodeNumber]) -> bool
         ensures { result ≡ in_limits (nodes_of self.now.plan) (guards_of self.now) node a.now b.now }
     {
         let count = self.plan.count();
-        self.len < 256 && node.0 < count && all_below(a, count) && all_below(b, count)
+        !self.guards.is_full() && node.0 < count && all_below(a, count) && all_below(b, count)
     }
 
     // Whether the guard is compatible with every guard of the table.
     fn takes(&self, guard: Guard) -> bool
         ensures { result ≡ all_compatible guard (guards_of self.now) }
     {
-        for i in 0..self.len {
-            if !guard.compatible(self.guards[i as usize]) {
-                return false;
-            }
-        }
-        true
+        self.guards.iter().all(|other| guard.compatible(*other))
     }
 
-    // The guard of the listed nodes, where the table takes it.
-    fn checked(
-        &self,
+    // Adds the guard of the listed nodes.
+    pub fn add(
+        &mut self,
         node: NodeNumber,
         a: &[NodeNumber],
         b: &[NodeNumber],
-    ) -> Result<Guard, Refusal>
-        ensures { result ≡ answer_unless (guard_refusal (nodes_of self.now.plan) (guards_of self.now) node a.now b.now) (guard_from node a.now b.now) }
+    ) -> Result<(), Refusal>
+        ensures answers { result ≡ answer_unless (guard_refusal (nodes_of self.old.plan) (guards_of self.old) node a.now b.now) tt }
+        ensures leaves { guards_of self.new ≡ leave_unless (guard_refusal (nodes_of self.old.plan) (guards_of self.old) node a.now b.now) (guards_of self.old) (with_guard (guards_of self.old) node a.now b.now) }
+        ensures plan { self.new.plan ≡ self.old.plan }
     {
         if !self.in_limits(node, a, b) {
             return Err(Refusal::LimitExceeded);
@@ -115,23 +109,7 @@ impl GuardTable {
         if !self.takes(guard) {
             return Err(Refusal::GuardsApart);
         }
-        Ok(guard)
-    }
-
-    // Adds the guard of the listed nodes.
-    pub fn add(
-        &mut self,
-        node: NodeNumber,
-        a: &[NodeNumber],
-        b: &[NodeNumber],
-    ) -> Result<(), Refusal>
-        ensures answers { result ≡ answer_unless (guard_refusal (nodes_of self.old.plan) (guards_of self.old) node a.now b.now) tt }
-        ensures leaves { guards_of self.new ≡ leave_unless (guard_refusal (nodes_of self.old.plan) (guards_of self.old) node a.now b.now) (guards_of self.old) (with_guard (guards_of self.old) node a.now b.now) }
-        ensures plan { self.new.plan ≡ self.old.plan }
-    {
-        let guard = self.checked(node, a, b)?;
-        self.guards[self.len as usize] = guard;
-        self.len += 1;
+        self.guards.push(guard);
         Ok(())
     }
 }

@@ -5,6 +5,7 @@ ghost use Rattle.rules.specs.PlanRules.{tree_rule};
 
 use crate::rule::LockRule;
 use basics::node::{NodeNumber, NodeSet};
+use basics::set::NumberSet;
 use plans::plan::Plan;
 
 #[derive(Clone, Copy, Drop)]
@@ -18,6 +19,7 @@ fn only_held(parents: NodeSet, held: NodeSet) -> bool
     parents.size() == 1 && parents.is_subset(held)
 }
 
+// Of one form with the majority rule, which says why.
 impl LockRule for TreeRule<'_> {
     ghost rule = { λ s. tree_rule s.plan.now };
 

@@ -1,10 +1,10 @@
 -- Lines worked out, those of the order and the values for the session that the model works out.
-use Rattle.std.specs.Prelude.{◌≡◌, ℕ, true, false, List, [], ◌∷◌, ◌++◌, pos, negsuc, Some, None, codes}
+use Rattle.std.specs.Prelude.{◌≡◌, ℕ, true, false, List, [], ◌∷◌, ◌++◌, pos, negsuc, Some, None, Ok, Err, codes}
 use Rattle.basics.specs.declared.refusal.Refusal.TheVariants.{MalformedLine, RuleDenies}
 use Rattle.model.specs.Example.{tree, page, calls}
 use Rattle.model.specs.State.{start, transaction}
 use Rattle.model.specs.Step.{session}
-use Rattle.session.specs.declared.answer.Answer.TheVariants.{Done, Waiting, Refused}
+use Rattle.session.specs.declared.answer.Reply.TheVariants.{Done, Waiting}
 use Rattle.runlines.specs.Lines.{turn_line, order_line, values_line, totals_line, fault_line}
 
 -- the bytes are this text and a line feed
@@ -13,11 +13,11 @@ Reads bytes words = bytes ≡ words ++ (10 ∷ [])
 
 abbrev pub TurnLines : Type 0
 TurnLines =
-    Reads (turn_line 1 (Some (Done (pos 0)))) (codes "1 0 0")
-    × Reads (turn_line 0 (Some (Waiting (transaction 1)))) (codes "0 w 1")
-    × Reads (turn_line 2 (Some (Refused RuleDenies))) (codes "2 18 0")
-    × Reads (turn_line 0 (Some (Done (negsuc 4)))) (codes "0 0 -5")
-    × Reads (turn_line 31 (Some (Done (negsuc 2147483647)))) (codes "31 0 -2147483648")
+    Reads (turn_line 1 (Some (Ok (Done (pos 0))))) (codes "1 0 0")
+    × Reads (turn_line 0 (Some (Ok (Waiting (transaction 1))))) (codes "0 w 1")
+    × Reads (turn_line 2 (Some (Err RuleDenies))) (codes "2 18 0")
+    × Reads (turn_line 0 (Some (Ok (Done (negsuc 4))))) (codes "0 0 -5")
+    × Reads (turn_line 31 (Some (Ok (Done (negsuc 2147483647))))) (codes "31 0 -2147483648")
     × Reads (turn_line 3 None) (codes "3 d 0")
 
 abbrev pub ListLines : Type 0

@@ -1,13 +1,13 @@
 -- The lines that a run writes, byte for byte.
-use Rattle.std.specs.Prelude.{ℕ, Bool, cond, List, [], ◌∷◌, ◌++◌, map, length, Some, None, codes, decimal, Option, Result}
+use Rattle.std.specs.Prelude.{◌≡◌, ℕ, ◌≤◌, Bool, cond, List, [], ◌∷◌, ◌++◌, map, length, Some, None, Ok, Err, codes, decimal, Option, Result}
 use Rattle.std.specs.List.{range_with_len, flat_map}
 use Rattle.std.specs.Fmt.{signed_decimal}
 use Rattle.basics.specs.declared.refusal.Refusal.{Refusal}
 use Rattle.basics.specs.Refusals.{code_of, answer_unless, leave_unless}
 use Rattle.model.specs.Order.{serial_order}
 use Rattle.model.specs.State.{State}
-use Rattle.session.specs.declared.answer.Answer.{Answer}
-use Rattle.session.specs.declared.answer.Answer.TheVariants.{Done, Waiting, Refused}
+use Rattle.session.specs.declared.answer.Reply.{Reply}
+use Rattle.session.specs.declared.answer.Reply.TheVariants.{Done, Waiting}
 use Rattle.session.specs.Reports.{short, filled}
 use Rattle.stores.specs.Store.{Store}
 
@@ -27,15 +27,21 @@ line_answer bytes buffer = answer_unless (short (length buffer) (length bytes)) 
 abbrev pub line_left : List ℕ → List ℕ → List ℕ
 line_left bytes buffer = leave_unless (short (length buffer) (length bytes)) buffer (filled bytes buffer)
 
+-- the line is written into the buffer, or the buffer is too short; 512 bytes are enough
+pub record Writes (bytes old new : List ℕ) (r : Result ℕ Refusal) : Type 0 where
+  pub answers : r ≡ line_answer bytes old
+  pub leaves : new ≡ line_left bytes old
+  pub fits : length bytes ≤ 512
+
 -- a turn's two words: 0 and a number, w and the holder, the refusal's number and 0, or d and 0 where it had no answer
-abbrev pub answer_words : Option Answer → List (List ℕ)
+abbrev pub answer_words : Option (Result Reply Refusal) → List (List ℕ)
 answer_words None = codes "d" ∷ (decimal 0 ∷ [])
-answer_words (Some (Done x)) = decimal 0 ∷ (signed_decimal x ∷ [])
-answer_words (Some (Waiting u)) = codes "w" ∷ (decimal u.0 ∷ [])
-answer_words (Some (Refused k)) = decimal (code_of k) ∷ (decimal 0 ∷ [])
+answer_words (Some (Ok (Done x))) = decimal 0 ∷ (signed_decimal x ∷ [])
+answer_words (Some (Ok (Waiting u))) = codes "w" ∷ (decimal u.0 ∷ [])
+answer_words (Some (Err k)) = decimal (code_of k) ∷ (decimal 0 ∷ [])
 
 -- whose turn it was, and what was answered
-abbrev pub turn_line : ℕ → Option Answer → List ℕ
+abbrev pub turn_line : ℕ → Option (Result Reply Refusal) → List ℕ
 turn_line script answer = line_of (decimal script) (answer_words answer)
 
 -- O, and the transactions in their serial order

@@ -1,11 +1,9 @@
 // A line that is being built.
-ghost use Rattle.std.specs.Prelude.{◌≡◌, ◌≤◌, length};
+use arrayvec::ArrayVec;
 
-// Built apart from the caller's buffer, so that a buffer that is too short is left as it was. No line is longer.
+// Built apart from the caller's buffer, so that a buffer that is too short is left as it was. No line is longer:
+// what adds to it asks for the room that it needs.
 #[derive(Drop)]
 pub(crate) struct Line {
-    pub(crate) bytes: [u8; 512],
-    pub(crate) len: usize,
-    ghost whole: { length bytes ≡ 512 },
-    ghost within: { len ≤ 512 },
+    pub(crate) bytes: ArrayVec<u8, 512>,
 }

@@ -1,7 +1,7 @@
 // Lines with a word for each transaction or each node.
-ghost use Rattle.std.specs.Prelude.{◌≡◌, ◌≤◌, map, length, codes, decimal};
+ghost use Rattle.std.specs.Prelude.{◌≤◌, map, length, codes, decimal};
 ghost use Rattle.session.specs.Of.{model_of};
-ghost use Rattle.runlines.specs.Lines.{line_of, line_answer, line_left, order_line, values_line};
+ghost use Rattle.runlines.specs.Lines.{Writes, line_of, order_line, values_line};
 
 use crate::line::Line;
 use crate::word::Word;
@@ -13,9 +13,7 @@ use stores::store::NodeStore;
 
 fn write_transactions(order: &[u8], out: &mut [u8]) -> Result<usize, Refusal>
     requires { length order.now ≤ 32 }
-    ensures answers { result ≡ line_answer (line_of (codes "O") (map decimal order.now)) out.old }
-    ensures leaves { out.new ≡ line_left (line_of (codes "O") (map decimal order.now)) out.old }
-    ensures fits { length (line_of (codes "O") (map decimal order.now)) ≤ 512 }
+    ensures { Writes (line_of (codes "O") (map decimal order.now)) out.old out.new result }
 {
     let mut line = Line::starting(Word::Letter(b'O'));
     for t in order {
@@ -29,9 +27,7 @@ pub fn write_order<R: LockRule, S: NodeStore>(
     session: &Session<R, S>,
     out: &mut [u8],
 ) -> Result<usize, Refusal>
-    ensures answers { result ≡ line_answer (order_line (model_of R.rule S.store session.now)) out.old }
-    ensures leaves { out.new ≡ line_left (order_line (model_of R.rule S.store session.now)) out.old }
-    ensures fits { length (order_line (model_of R.rule S.store session.now)) ≤ 512 }
+    ensures { Writes (order_line (model_of R.rule S.store session.now)) out.old out.new result }
 {
     let mut order = [0; 32];
     let n = session.order(&mut order)?;
@@ -40,9 +36,7 @@ pub fn write_order<R: LockRule, S: NodeStore>(
 
 // The value of each node of the store: `V 0 1 50`.
 pub fn write_values<S: NodeStore>(store: &S, out: &mut [u8]) -> Result<usize, Refusal>
-    ensures answers { result ≡ line_answer (values_line (S.store store.now)) out.old }
-    ensures leaves { out.new ≡ line_left (values_line (S.store store.now)) out.old }
-    ensures fits { length (values_line (S.store store.now)) ≤ 512 }
+    ensures { Writes (values_line (S.store store.now)) out.old out.new result }
 {
     let mut line = Line::starting(Word::Letter(b'V'));
     for n in 0..store.count() {

@@ -1,12 +1,23 @@
--- A line cut into its pieces, one after the other.
-use Rattle.std.proofs.Common.{◌≡◌, ℕ, suc, ◌+◌, ◌-◌, ◌<◌, ◌≤◌, Bool, true, false, cond, not, eqb, ltb, leb, List, [], ◌∷◌, length, take, drop, sym, refl, ap, ◌∙◌, inl, inr, arith, length-drop}
-use Rattle.std.proofs.lemmas.List.{take_all, drop-drop}
-use Rattle.std.proofs.lemmas.Bool.{cases_lt, le-leb, lt-leb, lt-ltb, le-ltb, cond-true, cond-false}
-use Rattle.std.proofs.lemmas.List.Sums.{prefix_len-le-length}
+-- A text cut into its pieces, one after the other.
+use Rattle.std.proofs.Common.{◌≡◌, ℕ, suc, ◌+◌, ◌<◌, ◌≤◌, Bool, true, false, cond, not, eqb, List, [], ◌∷◌, length, take, drop, Some, None, Option, sym, refl, ap, ◌∙◌, inl, inr, arith}
+use Rattle.std.specs.List.{prefix_len, position}
+use Rattle.std.specs.Option.{is_some}
+use mathlib.Core.Path.{subst⁻¹}
+use Rattle.std.proofs.lemmas.Bool.{cases_lt, lt-ltb, le-ltb}
 use Rattle.runtext_model.specs.Accepting.{is_empty}
 use Rattle.runtext_model.specs.Pieces.{onto, pieces}
-use Rattle.runtext.specs.Finding.{Cuts}
-use Rattle.runtext.specs.Left.{piece_length, pieces_from, piece_at}
+use Rattle.runtext.specs.declared.piece.Piece.{Piece}
+use Rattle.runtext.specs.declared.piece.Rest.{Rest}
+use Rattle.runtext.specs.Left.{pieces_of, pieces_left, size, size_of}
+
+-- how many bytes stand before the first byte c
+abbrev piece_length : ℕ → List ℕ → ℕ
+piece_length c xs = prefix_len (λ b. not (eqb b c)) xs
+
+-- cut at the first byte c, or not at all
+abbrev pub CutAt : ℕ → List ℕ → Option ℕ → Type 0
+CutAt c xs None = pieces c xs ≡ xs ∷ []
+CutAt c xs (Some i) = (i < length xs) × (pieces c xs ≡ take i xs ∷ pieces c (drop (i + 1) xs))
 
 -- the first piece, and those after it
 module _ (c : ℕ) where
@@ -28,7 +39,7 @@ module _ (c : ℕ) where
         λ l. p ∙ ap (onto x) (last (omega (arith, n))),
       )
 
-  pub cut_first : (xs : List ℕ) → Cut xs (piece_length c xs)
+  cut_first : (xs : List ℕ) → Cut xs (piece_length c xs)
   cut_first [] = (λ l. absurd (omega arith), λ l. refl)
   cut_first (x ∷ xs) = cut_step x xs (eqb x c) refl (cut_first xs)
 
@@ -39,42 +50,38 @@ module _ (c : ℕ) where
     | inr l ↦ let z : ◌≡◌ {A = ℕ} 0 1 = cc ((cut_first xs).1 l, e) in omega arith
   ]
 
--- past its end a line has no piece
-pub none_from : (line : List ℕ) (i : ℕ) → length line < i → pieces_from line i ≡ []
-unfolding pieces_from
-none_from line i l = cond-false (leb i (length line)) (pieces 32 (drop i line)) [] (lt-leb i (length line) l)
+  -- at the place that is found
+  pub cut_at : (xs : List ℕ) (o : Option ℕ) → o ≡ position (λ b. eqb b c) xs → CutAt c xs o
+  cut_at xs o e =
+      let n = piece_length c xs in
+      elim (cases_lt n (length xs)) [
+        | inl l ↦
+            let q : o ≡ Some n = e ∙ ap (λ b. cond b (Some n) None) (lt-ltb n (length xs) l) in
+            subst⁻¹ (CutAt c xs) q (l, (cut_first xs).0 l)
+        | inr l ↦
+            let q : o ≡ None = e ∙ ap (λ b. cond b (Some n) None) (le-ltb n (length xs) l) in
+            subst⁻¹ (CutAt c xs) q ((cut_first xs).1 l)
+      ]
 
--- the piece at a place, and where the next one begins
-pub cuts_at : (line : List ℕ) (i end : ℕ) → i ≤ length line → end ≡ i + piece_length 32 (drop i line) → end ≤ length line → Cuts line i (end + 1)
-unfolding pieces_from piece_at
-cuts_at line i end l e w =
-    let xs = drop i line in
-    let n = piece_length 32 xs in
-    let here : pieces_from line i ≡ pieces 32 xs = cond-true (leb i (length line)) (pieces 32 xs) [] (le-leb i (length line) l) in
-    record {
-      cut = elim (cases_lt n (length xs)) [
-        | inl m ↦
-            let k : i + (n + 1) ≡ end + 1 = omega arith in
-            let r : pieces_from line (end + 1) ≡ pieces 32 (drop (end + 1) line) = cond-true (leb (end + 1) (length line)) (pieces 32 (drop (end + 1) line)) [] (le-leb (end + 1) (length line) (omega (arith, length-drop i line, m))) in
-            here ∙ (cut_first 32 xs).0 m ∙ ap (λ ys. take n xs ∷ pieces 32 ys) (drop-drop (n + 1) i line ∙ ap (λ j. drop j line) k) ∙ sym (ap (λ ps. take n xs ∷ ps) r)
-        | inr m ↦
-            let r : pieces_from line (end + 1) ≡ [] = cond-false (leb (end + 1) (length line)) (pieces 32 (drop (end + 1) line)) [] (lt-leb (end + 1) (length line) (omega (arith, length-drop i line, m))) in
-            here ∙ (cut_first 32 xs).1 m ∙ ap (λ p. p ∷ []) (sym (take_all n xs m)) ∙ sym (ap (λ ps. take n xs ∷ ps) r)
-      ];
-      onward = omega arith;
-      within = omega arith;
-    }
+not_empty : (ps : List (List ℕ)) → (ps ≡ [] → ⊥) → is_empty ps ≡ false
+not_empty [] h = absurd (h refl)
+not_empty (p ∷ ps) h = refl
 
--- the piece at a place, as it is cut out of the line
-pub piece_is : (line : List ℕ) (i end : ℕ) → end ≡ i + piece_length 32 (drop i line) → take (end - i) (drop i line) ≡ piece_at line i
-unfolding piece_at
-piece_is line i end e = let k : end - i ≡ piece_length 32 (drop i line) = omega arith in ap (λ n. take n (drop i line)) k
+-- nothing is left where no piece is
+pub nothing_left : (r : Rest) (b : Bool) → is_some r.0 ≡ not b → b ≡ is_empty (pieces_left r)
+unfolding pieces_left
+nothing_left r b e = go r.0 b e
+  where
+    go : (o : Option Piece) (b : Bool) → is_some o ≡ not b → b ≡ is_empty (pieces_of o)
+    go None true e = refl
+    go None false e = cc
+    go (Some p) true e = cc
+    go (Some p) false e = sym (not_empty (pieces 32 p.part.bytes.now) (some_piece 32 p.part.bytes.now))
 
--- a line has a piece at each place up to its end, and none past it
-pub is_end_from : (line : List ℕ) (i : ℕ) → is_empty (pieces_from line i) ≡ ltb (length line) i
-is_end_from line i = elim (cases_lt (length line) i) [
-  | inl past ↦ ap is_empty (none_from line i past) ∙ sym (lt-ltb (length line) i past)
-  | inr inside ↦
-      let end = i + piece_length 32 (drop i line) in
-      ap is_empty (cuts_at line i end inside refl (omega (arith, length-drop i line, prefix_len-le-length (λ b. not (eqb b 32)) (drop i line)))).cut ∙ sym (le-ltb (length line) i inside)
-]
+-- a line has not more bytes than a text
+pub size_small : (r : Rest) → size r ≤ 16385
+size_small r = go r.0
+  where
+    go : (o : Option Piece) → size_of o ≤ 16385
+    go None = omega arith
+    go (Some p) = omega (arith, p.within)

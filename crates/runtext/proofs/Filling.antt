@@ -1,8 +1,6 @@
 -- A buffer filled from its start, and the limit that a list keeps below.
-use Rattle.std.proofs.Common.{◌≡◌, ℕ, zero, suc, ◌+◌, ◌-◌, ◌<◌, ◌≤◌, min, max, List, [], ◌∷◌, ◌++◌, map, length, get_or, take, drop, set, sym, ap, ◌∙◌, arith}
+use Rattle.std.proofs.Common.{◌≡◌, ℕ, zero, suc, ◌+◌, ◌<◌, ◌≤◌, max, List, [], ◌∷◌, ◌++◌, map, length, get_or, take, drop, set, sym, ap, ◌∙◌, arith}
 use Rattle.std.proofs.lemmas.List.{append_assoc, drop_more, set_at, length-map, take_all, take_at, drop_at}
-use Rattle.basics.specs.declared.node.NodeNumber.{NodeNumber}
-use Rattle.runtext_model.specs.Accepting.{node_number}
 use Rattle.runtext.specs.Listing.{above}
 
 -- one element more
@@ -10,7 +8,7 @@ pub filled_more : {X : Type 0} (front old : List X) (i : ℕ) (x : X) → length
 filled_more front old i x e l =
     ap (λ r. set (front ++ r) i x) (drop_more old i x l) ∙ set_at front (get_or old i x) (drop (i + 1) old) x i e ∙ sym (append_assoc front (x ∷ []) (drop (i + 1) old))
 
-pub above_least : (m : ℕ) (ns : List ℕ) → m ≤ above m ns
+above_least : (m : ℕ) (ns : List ℕ) → m ≤ above m ns
 above_least m [] = omega arith
 above_least m (n ∷ ns) = omega (arith, above_least (max m (n + 1)) ns)
 
@@ -32,11 +30,3 @@ filled_whole f ns old out n e q =
     let is = q ∙ ap (λ l. map f l ++ drop n old) all in
     let long : length (map f ns) ≡ n = length-map ns f ∙ sym e in
     (ap (take n) is ∙ take_at (map f ns) (drop n old) n long, ap (drop n) is ∙ drop_at (map f ns) (drop n old) n long)
-
--- nodes of a list that goes in whole, as they are handed on
-pub list_whole : (ns : List ℕ) (old out : List NodeNumber) (n count : ℕ) → n ≡ min count (length old) → count ≡ length ns → count ≤ length old → out ≡ map node_number (take n ns) ++ drop n old
-    → take (n - 0) out ≡ map node_number ns
-list_whole ns old out n count e k l q =
-    let m : n ≡ length ns = omega arith in
-    let z : n - 0 ≡ n = omega arith in
-    ap (λ i. take i out) z ∙ (filled_whole node_number ns old out n m q).0

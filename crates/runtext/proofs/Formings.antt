@@ -1,5 +1,5 @@
 -- The forms of the lines, piece by piece.
-use Rattle.std.proofs.Common.{◌≡◌, ℕ, true, false, List, [], ◌∷◌, ℤ, Some, None, Option, sym, refl, ap, ◌∙◌, arith}
+use Rattle.std.proofs.Common.{◌≡◌, ℕ, true, false, List, [], ◌∷◌, drop, ℤ, Some, None, Option, sym, refl, ap, ◌∙◌, arith}
 use Rattle.basics.specs.declared.node.NodeNumber.{NodeNumber}
 use Rattle.scripts_model.specs.declared.step.Step.{Step}
 use Rattle.runtext_model.specs.Accepting.{is_empty}
@@ -40,20 +40,34 @@ node_none (w ∷ []) e = refl
 node_none (w ∷ (v ∷ ps)) e =
     ap (λ o. and_then o (λ width. and_then (as_number (word_of v)) (λ value. and_then (numbers ps) (λ parents. Some (node width value parents))))) e
 
-pub node_valueless : (w : List ℕ) (ps : List (List ℕ)) (n : ℕ) → plain_in w ≡ Some n → first_number ps ≡ None → node_line (w ∷ ps) ≡ None
+node_second : (w : List ℕ) (ps : List (List ℕ)) (n : ℕ) → plain_in w ≡ Some n → first_number ps ≡ None → node_line (w ∷ ps) ≡ None
 unfolding plain_in number_in
-node_valueless w [] n e f = refl
-node_valueless w (v ∷ ps) n e f =
+node_second w [] n e f = refl
+node_second w (v ∷ ps) n e f =
     ap (λ o. and_then o (λ width. and_then (as_number (word_of v)) (λ value. and_then (numbers ps) (λ parents. Some (node width value parents))))) e
     ∙ ap (λ o. and_then o (λ value. and_then (numbers ps) (λ parents. Some (node n value parents)))) f
 
-pub node_is : (w v : List ℕ) (ps : List (List ℕ)) (n : ℕ) (z : ℤ) (o : Option (List ℕ)) → plain_in w ≡ Some n → number_in v ≡ Some z → numbers ps ≡ o
+node_whole : (w v : List ℕ) (ps : List (List ℕ)) (n : ℕ) (z : ℤ) (o : Option (List ℕ)) → plain_in w ≡ Some n → number_in v ≡ Some z → numbers ps ≡ o
     → node_line (w ∷ (v ∷ ps)) ≡ and_then o (λ parents. Some (node n z parents))
 unfolding plain_in number_in
-node_is w v ps n z o e f q =
+node_whole w v ps n z o e f q =
     ap (λ o. and_then o (λ width. and_then (as_number (word_of v)) (λ value. and_then (numbers ps) (λ parents. Some (node width value parents))))) e
     ∙ ap (λ o. and_then o (λ value. and_then (numbers ps) (λ parents. Some (node n value parents)))) f
     ∙ ap (λ o. and_then o (λ parents. Some (node n z parents))) q
+
+-- by what is left after each piece
+pub node_valueless : (ps qs : List (List ℕ)) → qs ≡ drop 1 ps → (n : ℕ) → first_plain ps ≡ Some n → first_number qs ≡ None → node_line ps ≡ None
+node_valueless [] qs c n e f = refl
+node_valueless (w ∷ ps) qs c n e f = node_second w ps n e (ap first_number (sym c) ∙ f)
+
+pub node_is : (ps qs rs : List (List ℕ)) → qs ≡ drop 1 ps → rs ≡ drop 1 qs → (n : ℕ) (z : ℤ) (o : Option (List ℕ)) → first_plain ps ≡ Some n → first_number qs ≡ Some z → numbers rs ≡ o
+    → node_line ps ≡ and_then o (λ parents. Some (node n z parents))
+node_is ps qs rs c d n z o e f q = go ps e (ap first_number (sym c) ∙ f) (ap numbers (sym (d ∙ ap (drop 1) c)) ∙ q)
+  where
+    go : (ps : List (List ℕ)) → first_plain ps ≡ Some n → first_number (drop 1 ps) ≡ Some z → numbers (drop 1 (drop 1 ps)) ≡ o → node_line ps ≡ and_then o (λ parents. Some (node n z parents))
+    go [] e f q = absurd (cc)
+    go (w ∷ []) e f q = absurd (cc)
+    go (w ∷ (v ∷ ps)) e f q = node_whole w v ps n z o e f q
 
 -- two lists with a slash between them: what the first piece makes of the rest
 abbrev by_word : List (List ℕ) → Option Word → Option (List ℕ × List ℕ)
@@ -142,10 +156,11 @@ pub two_lists_none : (ps : List (List ℕ)) → Slashless ps
 two_lists_none [] = λ f. refl
 two_lists_none (p ∷ ps) = slashless_by p ps (word_of p) refl (two_lists_none ps)
 
-pub guard_is : (p : List ℕ) (ps : List (List ℕ)) (n : ℕ) (o : Option (List ℕ × List ℕ)) → plain_in p ≡ Some n → two_lists ps ≡ o → guard_line (p ∷ ps) ≡ and_then o (λ l. Some (guard n l.0 l.1))
+pub guard_is : (ps qs : List (List ℕ)) → qs ≡ drop 1 ps → (n : ℕ) (o : Option (List ℕ × List ℕ)) → first_plain ps ≡ Some n → two_lists qs ≡ o → guard_line ps ≡ and_then o (λ l. Some (guard n l.0 l.1))
 unfolding plain_in
-guard_is p ps n o e q =
-    ap (λ u. and_then u (λ m. and_then (two_lists ps) (λ l. Some (guard m l.0 l.1)))) e ∙ ap (λ t. and_then t (λ l. Some (guard n l.0 l.1))) q
+guard_is [] qs c n o e q = absurd (cc)
+guard_is (p ∷ ps) qs c n o e q =
+    ap (λ u. and_then u (λ m. and_then (two_lists ps) (λ l. Some (guard m l.0 l.1)))) e ∙ ap (λ t. and_then t (λ l. Some (guard n l.0 l.1))) (ap two_lists (sym c) ∙ q)
 
 pub guard_none : (ps : List (List ℕ)) → first_plain ps ≡ None → guard_line ps ≡ None
 unfolding plain_in
@@ -159,14 +174,22 @@ step_none f [] e = refl
 step_none f (n ∷ []) e = ap (λ o. and_then o (λ m. Some (step (f (record { 0 = m }))))) e
 step_none f (n ∷ (p ∷ ps)) e = refl
 
-pub step_long : (f : NodeNumber → Step) (p : List ℕ) (ps : List (List ℕ)) → is_empty ps ≡ false → step_line f (p ∷ ps) ≡ None
-step_long f p [] t = cc
-step_long f p (q ∷ ps) t = refl
+step_more : (f : NodeNumber → Step) (p : List ℕ) (ps : List (List ℕ)) → is_empty ps ≡ false → step_line f (p ∷ ps) ≡ None
+step_more f p [] t = cc
+step_more f p (q ∷ ps) t = refl
 
-pub step_is : (f : NodeNumber → Step) (p : List ℕ) (ps : List (List ℕ)) (n : ℕ) → is_empty ps ≡ true → plain_in p ≡ Some n → step_line f (p ∷ ps) ≡ Some (step (f (record { 0 = n })))
+step_whole : (f : NodeNumber → Step) (p : List ℕ) (ps : List (List ℕ)) (n : ℕ) → is_empty ps ≡ true → plain_in p ≡ Some n → step_line f (p ∷ ps) ≡ Some (step (f (record { 0 = n })))
 unfolding plain_in
-step_is f p [] n t e = ap (λ o. and_then o (λ m. Some (step (f (record { 0 = m }))))) e
-step_is f p (q ∷ ps) n t e = cc
+step_whole f p [] n t e = ap (λ o. and_then o (λ m. Some (step (f (record { 0 = m }))))) e
+step_whole f p (q ∷ ps) n t e = cc
+
+pub step_long : (f : NodeNumber → Step) (ps qs : List (List ℕ)) → qs ≡ drop 1 ps → is_empty qs ≡ false → step_line f ps ≡ None
+step_long f [] qs c t = refl
+step_long f (p ∷ ps) qs c t = step_more f p ps (ap is_empty (sym c) ∙ t)
+
+pub step_is : (f : NodeNumber → Step) (ps qs : List (List ℕ)) → qs ≡ drop 1 ps → (n : ℕ) → is_empty qs ≡ true → first_plain ps ≡ Some n → step_line f ps ≡ Some (step (f (record { 0 = n })))
+step_is f [] qs c n t e = absurd (cc)
+step_is f (p ∷ ps) qs c n t e = step_whole f p ps n (ap is_empty (sym c) ∙ t) e
 
 -- a node and a number, and nothing else
 pub change_none : (f : NodeNumber → ℤ → Step) (ps : List (List ℕ)) → first_plain ps ≡ None → change_line f ps ≡ None
@@ -176,25 +199,46 @@ change_none f (n ∷ []) e = refl
 change_none f (n ∷ (v ∷ [])) e = ap (λ o. and_then o (λ m. and_then (as_number (word_of v)) (λ z. Some (step (f (record { 0 = m }) z))))) e
 change_none f (n ∷ (v ∷ (p ∷ ps))) e = refl
 
-pub change_valueless : (f : NodeNumber → ℤ → Step) (p : List ℕ) (ps : List (List ℕ)) (n : ℕ) → plain_in p ≡ Some n → first_number ps ≡ None → change_line f (p ∷ ps) ≡ None
+change_second : (f : NodeNumber → ℤ → Step) (p : List ℕ) (ps : List (List ℕ)) (n : ℕ) → plain_in p ≡ Some n → first_number ps ≡ None → change_line f (p ∷ ps) ≡ None
 unfolding plain_in number_in
-change_valueless f p [] n e q = refl
-change_valueless f p (v ∷ []) n e q =
+change_second f p [] n e q = refl
+change_second f p (v ∷ []) n e q =
     ap (λ o. and_then o (λ m. and_then (as_number (word_of v)) (λ z. Some (step (f (record { 0 = m }) z))))) e
     ∙ ap (λ o. and_then o (λ z. Some (step (f (record { 0 = n }) z)))) q
-change_valueless f p (v ∷ (x ∷ ps)) n e q = refl
+change_second f p (v ∷ (x ∷ ps)) n e q = refl
 
-pub change_long : (f : NodeNumber → ℤ → Step) (p v : List ℕ) (ps : List (List ℕ)) → is_empty ps ≡ false → change_line f (p ∷ (v ∷ ps)) ≡ None
-change_long f p v [] t = cc
-change_long f p v (q ∷ ps) t = refl
+change_more : (f : NodeNumber → ℤ → Step) (p v : List ℕ) (ps : List (List ℕ)) → is_empty ps ≡ false → change_line f (p ∷ (v ∷ ps)) ≡ None
+change_more f p v [] t = cc
+change_more f p v (q ∷ ps) t = refl
 
-pub change_is : (f : NodeNumber → ℤ → Step) (p v : List ℕ) (ps : List (List ℕ)) (n : ℕ) (z : ℤ) → is_empty ps ≡ true → plain_in p ≡ Some n → number_in v ≡ Some z
+change_whole : (f : NodeNumber → ℤ → Step) (p v : List ℕ) (ps : List (List ℕ)) (n : ℕ) (z : ℤ) → is_empty ps ≡ true → plain_in p ≡ Some n → number_in v ≡ Some z
     → change_line f (p ∷ (v ∷ ps)) ≡ Some (step (f (record { 0 = n }) z))
 unfolding plain_in number_in
-change_is f p v [] n z t e q =
+change_whole f p v [] n z t e q =
     ap (λ o. and_then o (λ m. and_then (as_number (word_of v)) (λ z. Some (step (f (record { 0 = m }) z))))) e
     ∙ ap (λ o. and_then o (λ z. Some (step (f (record { 0 = n }) z)))) q
-change_is f p v (x ∷ ps) n z t e q = cc
+change_whole f p v (x ∷ ps) n z t e q = cc
+
+pub change_valueless : (f : NodeNumber → ℤ → Step) (ps qs : List (List ℕ)) → qs ≡ drop 1 ps → (n : ℕ) → first_plain ps ≡ Some n → first_number qs ≡ None → change_line f ps ≡ None
+change_valueless f [] qs c n e q = refl
+change_valueless f (p ∷ ps) qs c n e q = change_second f p ps n e (ap first_number (sym c) ∙ q)
+
+pub change_long : (f : NodeNumber → ℤ → Step) (ps qs rs : List (List ℕ)) → qs ≡ drop 1 ps → rs ≡ drop 1 qs → is_empty rs ≡ false → change_line f ps ≡ None
+change_long f ps qs rs c d t = go ps (ap is_empty (sym (d ∙ ap (drop 1) c)) ∙ t)
+  where
+    go : (ps : List (List ℕ)) → is_empty (drop 1 (drop 1 ps)) ≡ false → change_line f ps ≡ None
+    go [] t = refl
+    go (p ∷ []) t = refl
+    go (p ∷ (v ∷ ps)) t = change_more f p v ps t
+
+pub change_is : (f : NodeNumber → ℤ → Step) (ps qs rs : List (List ℕ)) → qs ≡ drop 1 ps → rs ≡ drop 1 qs → (n : ℕ) (z : ℤ) → is_empty rs ≡ true → first_plain ps ≡ Some n → first_number qs ≡ Some z
+    → change_line f ps ≡ Some (step (f (record { 0 = n }) z))
+change_is f ps qs rs c d n z t e q = go ps (ap is_empty (sym (d ∙ ap (drop 1) c)) ∙ t) e (ap first_number (sym c) ∙ q)
+  where
+    go : (ps : List (List ℕ)) → is_empty (drop 1 (drop 1 ps)) ≡ true → first_plain ps ≡ Some n → first_number (drop 1 ps) ≡ Some z → change_line f ps ≡ Some (step (f (record { 0 = n }) z))
+    go [] t e q = absurd (cc)
+    go (p ∷ []) t e q = absurd (cc)
+    go (p ∷ (v ∷ ps)) t e q = change_whole f p v ps n z t e q
 
 -- S stands alone
 pub script_is : (ps : List (List ℕ)) → is_empty ps ≡ true → script_line ps ≡ Some script

@@ -1,11 +1,11 @@
 mod Cutting
+mod Digits
 mod Filling
 mod Formings
 mod Letters
 mod Limits
 mod LineByLine
 mod Listings
-mod Numbers
 mod Tables
 mod Taking
 mod Wording

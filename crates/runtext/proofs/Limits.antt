@@ -1,7 +1,6 @@
 -- Numbers within their limits.
-use Rattle.std.proofs.Common.{◌≡◌, ℕ, ◌+◌, ◌<◌, ◌≤◌, max, Bool, true, false, cond, not, ◌&&◌, ◌||◌, ltb, leb, List, [], ◌∷◌, map, length, ℤ, pos, negsuc, Some, None, sym, refl, ap, ◌∙◌, ap₂, inl, inr, arith}
+use Rattle.std.proofs.Common.{◌≡◌, ℕ, ◌+◌, ◌<◌, ◌≤◌, max, Bool, true, false, cond, not, ◌&&◌, ◌||◌, ltb, leb, List, [], ◌∷◌, map, length, Some, None, sym, refl, ap, ◌∙◌, ◌⊎◌, inl, inr, arith}
 use lib.ListN.{length-map}
-use lib.Signed.{le_z, lt_z}
 use Rattle.std.proofs.lemmas.Bool.{le-leb, ltb-true, and_parts, leb-true, and_left, and_right, or_cases, cases_Bool}
 use Rattle.std.proofs.lemmas.Bool.Decides.{nat_tests}
 use Rattle.basics.specs.declared.refusal.Refusal.TheVariants.{LimitExceeded, BadGuard, GuardsApart}
@@ -24,8 +23,13 @@ within_both a b c d t = grind (arith, nat_tests)
 pub past_either : (a b c d : ℕ) → (leb b a || leb d c) ≡ true → (ltb a b && ltb c d) ≡ false
 past_either a b c d t = grind (arith, nat_tests)
 
+-- one of two limits is passed
+pub past_one : (a b c d : ℕ) → (a < b) ⊎ ((b ≤ a) × (c < d)) → (ltb a b || ltb c d) ≡ true
+past_one a b c d (inl l) = grind (arith, nat_tests)
+past_one a b c d (inr l) = let r = l.1 in grind (arith, nat_tests)
+
 -- all numbers are below what their limit does not pass
-pub each_below_limit : (k m : ℕ) (ns : List ℕ) → (leb m k && each_below k ns) ≡ leb (above m ns) k
+each_below_limit : (k m : ℕ) (ns : List ℕ) → (leb m k && each_below k ns) ≡ leb (above m ns) k
 each_below_limit k m [] = and_true (leb m k)
   where
     and_true : (b : Bool) → (b && true) ≡ b
@@ -36,7 +40,7 @@ each_below_limit k m (n ∷ ns) = step (each_below k ns) ∙ each_below_limit k 
     step : (b : Bool) → (leb m k && (ltb n k && b)) ≡ (leb (max m (n + 1)) k && b)
     step b = grind (arith, nat_tests)
 
-pub below_its_limit : (k : ℕ) (ns : List ℕ) → each_below k ns ≡ leb (above 0 ns) k
+below_its_limit : (k : ℕ) (ns : List ℕ) → each_below k ns ≡ leb (above 0 ns) k
 below_its_limit k ns = sym (ap (λ b. b && each_below k ns) (le-leb 0 k (omega arith))) ∙ each_below_limit k 0 ns
 
 -- a turn list within its limits, or not
@@ -49,23 +53,6 @@ pub turns_past : (k : ℕ) (ns : List ℕ) → (ltb 4096 (length ns) || ltb k (a
 turns_past k ns t =
     let bad : (leb (length ns) 4096 && leb (above 0 ns) k) ≡ false = grind (arith, nat_tests) in
     ap (λ b. limit_unless (leb (length ns) 4096 && b)) (below_its_limit k ns) ∙ ap limit_unless bad
-
--- a number between two bounds, or not
-leb_not : (a b : ℕ) → leb a b ≡ not (ltb b a)
-leb_not a b = grind (arith, nat_tests)
-
-leZ_not : (a b : ℤ) → le_z a b ≡ not (lt_z b a)
-leZ_not (pos a) (pos b) = leb_not a b
-leZ_not (pos a) (negsuc b) = refl
-leZ_not (negsuc a) (pos b) = refl
-leZ_not (negsuc a) (negsuc b) = leb_not b a
-
-pub between : (low high z : ℤ) → (le_z low z && le_z z high) ≡ not (lt_z z low || lt_z high z)
-between low high z = ap₂ (λ (a b : Bool). a && b) (leZ_not low z) (leZ_not z high) ∙ go (lt_z z low) (lt_z high z)
-  where
-    go : (a b : Bool) → (not a && not b) ≡ not (a || b)
-    go true b = refl
-    go false b = refl
 
 -- the same of nodes
 all_below_each : (k : ℕ) (ns : List ℕ) → all_below k (map node_number ns) ≡ each_below k ns
@@ -87,7 +74,7 @@ few_rising k [] r b = omega arith
 few_rising k (x ∷ xs) r b = omega (arith, rising_room k x xs r b)
 
 -- so that a longer list does not rise
-pub not_rising : (k : ℕ) (ns : List ℕ) → k ≤ 64 → all_below k (map node_number ns) ≡ true → 64 < length ns → rising (map node_number ns) ≡ false
+not_rising : (k : ℕ) (ns : List ℕ) → k ≤ 64 → all_below k (map node_number ns) ≡ true → 64 < length ns → rising (map node_number ns) ≡ false
 not_rising k ns l b m = elim (cases_Bool (rising (map node_number ns))) [
   | inl t ↦ absurd (omega (arith, few_rising k (map node_number ns) t b, length-map ns node_number))
   | inr f ↦ f

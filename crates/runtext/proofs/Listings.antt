@@ -1,5 +1,5 @@
 -- Numbers and lists of numbers, piece by piece.
-use Rattle.std.proofs.Common.{◌≡◌, ℕ, ◌<◌, Bool, true, false, cond, List, [], ◌∷◌, length, ℤ, pos, negsuc, nat_abs, ◌≤ℤ◌, Some, None, Option, sym, refl, ap, ◌∙◌, subst, ap₂, arith, w32, to_z, of_z}
+use Rattle.std.proofs.Common.{◌≡◌, ℕ, ◌<◌, Bool, true, false, cond, List, [], ◌∷◌, length, drop, ℤ, pos, negsuc, nat_abs, ◌≤ℤ◌, Some, None, Option, sym, refl, ap, ◌∙◌, ap₂, arith, w32, to_z, of_z}
 use lib.Signed.{lt_z}
 use Rattle.std.proofs.lemmas.Int.{ints}
 use Rattle.runtext_model.specs.Lines.{and_then, as_number, unsigned}
@@ -7,11 +7,9 @@ use Rattle.runtext_model.specs.Words.{Word, slash, number_value, is_number, word
 use Rattle.runtext.specs.declared.part.Part.{Part}
 use Rattle.runtext.specs.declared.word.Word.TheVariants.{Letter, Number, Slash}
 use Rattle.runtext.specs.declared.word.Word as program
-use Rattle.runtext.specs.declared.list.Numbers.{Numbers}
-use Rattle.runtext.specs.Forming.{listed}
+use Rattle.runtext.specs.declared.numbers.Numbers.{Numbers}
 use Rattle.runtext.specs.Finding.{first_word}
-use Rattle.runtext.specs.Left.{pieces_from}
-use Rattle.runtext.specs.Listing.{number_in, plain_in, first_number, first_plain, front, behind, above, Lists}
+use Rattle.runtext.specs.Listing.{number_in, plain_in, first_number, first_plain, front, behind, listed, above}
 use Rattle.runtext.specs.Meaning.{means}
 use Rattle.runtext.specs.Numerals.{number_read, Small}
 
@@ -32,9 +30,10 @@ unfolding number_in
 number_is p o e = ap as_number e
 
 -- a number without a minus
-pub plain_is : (p : List ℕ) (z : ℤ) → number_in p ≡ Some z → plain_in p ≡ unsigned z
+pub plain_is : (ps : List (List ℕ)) (z : ℤ) → first_number ps ≡ Some z → first_plain ps ≡ unsigned z
 unfolding number_in plain_in
-plain_is p z e = ap (λ o. and_then o unsigned) e
+plain_is [] z e = absurd (cc)
+plain_is (p ∷ ps) z e = ap (λ o. and_then o unsigned) e
 
 pub no_plain : (ps : List (List ℕ)) → first_number ps ≡ None → first_plain ps ≡ None
 unfolding number_in plain_in
@@ -51,6 +50,10 @@ front_more p ps n e = (
   ap (λ (o : Option ℕ). elim o as (λ _. List ℕ) [ None ↦ [] | Some m ↦ m ∷ front ps ]) e,
   ap (λ (o : Option ℕ). elim o as (λ _. List (List ℕ)) [ None ↦ p ∷ ps | Some m ↦ behind ps ]) e,
 )
+
+pub front_first : (ps : List (List ℕ)) (n : ℕ) → first_plain ps ≡ Some n → (front ps ≡ n ∷ front (drop 1 ps)) × (behind ps ≡ behind (drop 1 ps))
+front_first [] n e = absurd (cc)
+front_first (p ∷ ps) n e = front_more p ps n e
 
 pub front_none : (ps : List (List ℕ)) → first_plain ps ≡ None → (front ps ≡ []) × (behind ps ≡ ps)
 front_none [] e = (refl, refl)
@@ -77,14 +80,6 @@ from_zero (negsuc n) t h = absurd (omega (arith, ints))
 pub same_word : (z : ℤ) → Small (Some z) → to_z w32 (of_z w32 z) ≡ z
 same_word z (low, high) = omega (arith, ints)
 
--- a list, from where it says that it begins
-pub own_list : (line : List ℕ) (from : ℕ) (l : Numbers) → Lists line from l → Lists line l.from l
-own_list line from l h = subst (λ i. Lists line i l) (sym h.begins) h
-
-pub listed_is : (line : List ℕ) (from : ℕ) (l : Numbers) → Lists line from l → front (pieces_from line from) ≡ listed line l
-unfolding listed
-listed_is line from l h = ap (λ i. front (pieces_from line i)) (sym h.begins)
-
 -- a word that is no slash
 pub no_slash : (w : program.Word) → ((p : Part) → w ≡ Slash p → ⊥) → Some (means w) ≡ Some slash → ⊥
 no_slash (Letter p) f e = let z : ◌≡◌ {A = ℕ} 0 1 = cc in omega arith
@@ -92,6 +87,5 @@ no_slash (Number p) f e = let z : ◌≡◌ {A = ℕ} 0 1 = cc in omega arith
 no_slash (Slash p) f e = f p refl
 
 -- how many numbers a list has, and what they are below
-pub counted : {X : Type 0} (line : List ℕ) (l : Numbers) → Lists line l.from l → (f : ℕ → ℕ → X) → f (length (listed line l)) (above 0 (listed line l)) ≡ f l.count l.limit
-unfolding listed
-counted line l h f = ap₂ f (sym h.count) (sym h.limit)
+pub counted : {X : Type 0} (l : Numbers) → (f : ℕ → ℕ → X) → f (length (listed l.from)) (above 0 (listed l.from)) ≡ f l.count l.limit
+counted l f = ap₂ f (sym l.counted) (sym l.limited)

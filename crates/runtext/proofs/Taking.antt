@@ -1,5 +1,6 @@
 -- What a line makes of a description.
-use Rattle.std.proofs.Common.{◌≡◌, ℕ, zero, suc, ◌<◌, ◌≤◌, true, false, cond, eqb, ltb, List, [], ◌∷◌, length, take, drop, Some, None, Ok, Err, Option, sym, refl, ap, ◌∙◌, arith}
+use Rattle.std.proofs.Common.{◌≡◌, ℕ, zero, suc, ◌<◌, ◌≤◌, Bool, true, false, cond, eqb, ltb, List, [], ◌∷◌, length, take, drop, Some, None, Ok, Err, Option, Result, sym, refl, ap, ◌∙◌, arith}
+use mathlib.Core.Path.{subst⁻¹}
 use Rattle.std.proofs.lemmas.List.{length-take-le}
 use Rattle.std.proofs.lemmas.Bool.{ne_eqb}
 use Rattle.basics.specs.declared.refusal.Refusal.{Refusal}
@@ -26,16 +27,16 @@ module _ (d : Description) where
   pub malformed : (l : Option Line) → l ≡ None → accepted d l ≡ Err MalformedLine
   malformed l e = ap (accepted d) e
 
-  pub misplaced : (l : Option Line) (x : Line) → l ≡ Some x → in_section d x ≡ false → accepted d l ≡ Err MisplacedLine
-  misplaced l x e f = ap (accepted d) e ∙ ap (λ b. cond b (answer_unless (line_refusal d x) (with_line d x)) (Err MisplacedLine)) f
+  pub misplaced : (x : Line) → in_section d x ≡ false → accepted d (Some x) ≡ Err MisplacedLine
+  misplaced x f = ap (λ b. cond b (answer_unless (line_refusal d x) (with_line d x)) (Err MisplacedLine)) f
 
-  pub judged : (l : Option Line) (x : Line) (o : Option Refusal) → l ≡ Some x → in_section d x ≡ true → line_refusal d x ≡ o → accepted d l ≡ answer_unless o (with_line d x)
-  judged l x o e t q =
-      ap (accepted d) e ∙ ap (λ b. cond b (answer_unless (line_refusal d x) (with_line d x)) (Err MisplacedLine)) t
+  pub judged : (x : Line) (o : Option Refusal) → in_section d x ≡ true → line_refusal d x ≡ o → accepted d (Some x) ≡ answer_unless o (with_line d x)
+  judged x o t q =
+      ap (λ b. cond b (answer_unless (line_refusal d x) (with_line d x)) (Err MisplacedLine)) t
       ∙ ap (λ r. answer_unless r (with_line d x)) q
 
 -- a line that is refused changes nothing
-pub refused : (s : Setup) (ss : List Step) (ts : List TransactionNumber) (l : Option Line) (e : Refusal) → accepted (description_of s ss ts) l ≡ Err e → Takes s s ss ss ts ts l (Some e)
+pub refused : (s : Setup) (ss : List Step) (ts : List TransactionNumber) (l : Option Line) (e : Refusal) → accepted (description_of s ss ts) l ≡ Err e → Takes s s ss ss ts ts l (Err e)
 refused s ss ts l e q = record {
   answers = sym (ap why q);
   leaves = sym (ap (left (description_of s ss ts)) q);
@@ -47,7 +48,7 @@ refused s ss ts l e q = record {
 
 -- a line that is refused after the table was asked, which has left all as it was
 pub unchanged : (s s' : Setup) (ss : List Step) (ts : List TransactionNumber) (l : Option Line) (e : Refusal) → accepted (description_of s ss ts) l ≡ Err e
-    → description_of s' ss ts ≡ description_of s ss ts → s'.steps ≡ s.steps → s'.turns ≡ s.turns → Takes s s' ss ss ts ts l (Some e)
+    → description_of s' ss ts ≡ description_of s ss ts → s'.steps ≡ s.steps → s'.turns ≡ s.turns → Takes s s' ss ss ts ts l (Err e)
 unchanged s s' ss ts l e q d a b = record {
   answers = sym (ap why q);
   leaves = d ∙ sym (ap (left (description_of s ss ts)) q);
@@ -60,7 +61,7 @@ unchanged s s' ss ts l e q d a b = record {
 -- a line that is taken
 pub taken : (s s' : Setup) (ss ss' : List Step) (ts ts' : List TransactionNumber) (l : Option Line) → accepted (description_of s ss ts) l ≡ Ok (description_of s' ss' ts')
     → s.steps ≤ s'.steps → drop s'.steps ss' ≡ drop s'.steps ss
-    → turn_count s.turns ≤ turn_count s'.turns → drop (turn_count s'.turns) ts' ≡ drop (turn_count s'.turns) ts → Takes s s' ss ss' ts ts' l None
+    → turn_count s.turns ≤ turn_count s'.turns → drop (turn_count s'.turns) ts' ≡ drop (turn_count s'.turns) ts → Takes s s' ss ss' ts ts' l (Ok tt)
 taken s s' ss ss' ts ts' l q a b e f = record {
   answers = sym (ap why q);
   leaves = sym (ap (left (description_of s ss ts)) q);
@@ -102,3 +103,19 @@ with_turns s ss l = record {
   steps = take s.steps ss;
   turns = Some l;
 }
+
+-- a step that is given unless it is refused
+pub step_refused : (b : Bool) (x : Step) → None ≡ cond b (Some x) None → b ≡ false
+step_refused true x e = cc
+step_refused false x e = refl
+
+pub step_good : (b : Bool) (x y : Step) → Some y ≡ cond b (Some x) None → (b ≡ true) × (y ≡ x)
+step_good true x y e = (refl, cc)
+step_good false x y e = absurd (cc)
+
+-- the same line or the same result in other words
+pub at_line : (s s' : Setup) (ss ss' : List Step) (ts ts' : List TransactionNumber) (l m : Option Line) (r : Result (Unit {0}) Refusal) → l ≡ m → Takes s s' ss ss' ts ts' m r → Takes s s' ss ss' ts ts' l r
+at_line s s' ss ss' ts ts' l m r e t = subst⁻¹ (λ (x : Option Line). Takes s s' ss ss' ts ts' x r) e t
+
+pub at_result : (s s' : Setup) (ss ss' : List Step) (ts ts' : List TransactionNumber) (l : Option Line) (r q : Result (Unit {0}) Refusal) → r ≡ q → Takes s s' ss ss' ts ts' l q → Takes s s' ss ss' ts ts' l r
+at_result s s' ss ss' ts ts' l r q e t = subst⁻¹ (λ (x : Result (Unit {0}) Refusal). Takes s s' ss ss' ts ts' l x) e t

@@ -1,24 +1,24 @@
 -- Which word some bytes are.
-use Rattle.std.proofs.Common.{◌≡◌, ℕ, Bool, true, false, cond, eqb, List, length, get_or, ℤ, Some, None, Option, refl, ap, ◌∙◌}
-use Rattle.std.proofs.lemmas.Bool.{and_left, and_right, and_from, eq-eqb, ne_eqb}
+use Rattle.std.proofs.Common.{◌≡◌, ℕ, ◌<◌, ◌≤◌, Bool, true, false, cond, eqb, leb, List, length, get_or, ℤ, Some, None, Option, sym, refl, ap, ◌∙◌, inl, inr}
+use Rattle.std.proofs.lemmas.Bool.{cases_lt, lt-leb, and_left, and_right, ne_eqb}
+use Rattle.std.specs.Option.{is_some}
 use Rattle.runtext_model.specs.Words.{Word, letter, number, slash, is_capital, is_number, number_value, is_single, word_of}
 use Rattle.runtext.specs.Numerals.{number_read}
 
-pub is_one : (bs : List ℕ) (z : ℤ) → number_read bs ≡ Some z → is_number bs ≡ true
+-- whether some number was read
+pub is_one : (bs : List ℕ) (o : Option ℤ) (t : Bool) → o ≡ number_read bs → is_some o ≡ t → is_number bs ≡ t
 unfolding number_read
-is_one bs z e = go (is_number bs) e
+is_one bs o t e i = go (is_number bs) ∙ sym (ap is_some e) ∙ i
   where
-    go : (b : Bool) → cond b (Some (number_value bs)) None ≡ Some z → b ≡ true
-    go true e = refl
-    go false e = cc
+    go : (b : Bool) → b ≡ is_some (cond b (Some (number_value bs)) None)
+    go true = refl
+    go false = refl
 
-pub is_none : (bs : List ℕ) → number_read bs ≡ None → is_number bs ≡ false
-unfolding number_read
-is_none bs e = go (is_number bs) e
-  where
-    go : (b : Bool) → cond b (Some (number_value bs)) None ≡ None → b ≡ false
-    go true e = cc
-    go false e = refl
+pub not_capital : (b : ℕ) → (65 ≤ b → 90 < b) → is_capital b ≡ false
+not_capital b h = elim (cases_lt b 65) [
+  | inl l ↦ and_left (leb 65 b) _ (lt-leb 65 b l)
+  | inr l ↦ and_right (leb 65 b) _ (lt-leb b 90 (h l))
+]
 
 -- by its tests
 abbrev chosen : List ℕ → Bool → Bool → Bool → Option Word
@@ -40,14 +40,8 @@ module _ (bs : List ℕ) (t : is_number bs ≡ false) where
       other ∙ ap (λ l. chosen bs false l is_slash) (and_left (eqb (length bs) 1) _ long) ∙ ap (λ s. chosen bs false false s) (and_left (eqb (length bs) 1) _ long)
 
   module _ (one : length bs ≡ 1) where
-    pub word_letter : is_capital (get_or bs 0 0) ≡ true → word_of bs ≡ Some (letter (get_or bs 0 0))
-    word_letter c = other ∙ ap (λ l. chosen bs false l is_slash) (and_from (eqb (length bs) 1) _ (eq-eqb (length bs) 1 one) c)
-
     no_letter : is_capital (get_or bs 0 0) ≡ false → word_of bs ≡ chosen bs false false is_slash
     no_letter c = other ∙ ap (λ l. chosen bs false l is_slash) (and_right (eqb (length bs) 1) _ c)
-
-    pub word_slash : is_capital (get_or bs 0 0) ≡ false → get_or bs 0 0 ≡ 47 → word_of bs ≡ Some slash
-    word_slash c e = no_letter c ∙ ap (λ s. chosen bs false false s) (and_from (eqb (length bs) 1) _ (eq-eqb (length bs) 1 one) (eq-eqb (get_or bs 0 0) 47 e))
 
     pub word_none : is_capital (get_or bs 0 0) ≡ false → (get_or bs 0 0 ≡ 47 → ⊥) → word_of bs ≡ None
     word_none c e = no_letter c ∙ ap (λ s. chosen bs false false s) (and_right (eqb (length bs) 1) _ (ne_eqb (get_or bs 0 0) 47 e))

@@ -1,50 +1,57 @@
--- What the forms of the lines say.
-use Rattle.std.specs.Prelude.{◌≡◌, ℕ, List, ℤ, Some, None, Option}
+-- What the lines of the program say.
+use Rattle.std.specs.Prelude.{ℕ, ℤ, Some, None, Option}
 use Rattle.basics.specs.declared.node.NodeNumber.{NodeNumber}
-use Rattle.scripts_model.specs.declared.step.Step.{Step}
+use Rattle.scripts_model.specs.declared.step.Step as any
+use Rattle.scripts_model.specs.declared.step.Step.TheVariants as steps
 use Rattle.runtext_model.specs.declared.kind.RuleKind.{RuleKind}
-use Rattle.runtext_model.specs.Lines.{Line, rule, node, guard, step, turns, node_line, guard_line, turns_line}
-use Rattle.runtext.specs.declared.form.NodeForm.{NodeForm}
-use Rattle.runtext.specs.declared.form.GuardForm.{GuardForm}
-use Rattle.runtext.specs.declared.form.ChangeForm.{ChangeForm}
-use Rattle.runtext.specs.declared.list.Numbers.{Numbers}
-use Rattle.runtext.specs.Left.{pieces_from}
-use Rattle.runtext.specs.Listing.{Lists, front}
-use Rattle.runtext.specs.Numerals.{Small}
+use Rattle.runtext_model.specs.Accepting.{node_number}
+use Rattle.runtext_model.specs.Lines.{rule, node, guard, script, step, turns}
+use Rattle.runtext_model.specs.Lines as model
+use Rattle.runtext.specs.declared.line.GuardForm.{GuardForm}
+use Rattle.runtext.specs.declared.line.Line.{Line}
+use Rattle.runtext.specs.declared.line.Line.TheVariants.{Rule, Node, Guard, Script, Step, Turns}
+use Rattle.runtext.specs.declared.line.NodeForm.{NodeForm}
+use Rattle.runtext.specs.declared.line.StepForm.{StepForm}
+use Rattle.runtext.specs.declared.line.StepForm.TheVariants.{Lock, Release, Read, Write, Adjust}
+use Rattle.runtext.specs.Listing.{listed}
 
-abbrev pub rule_said : Option RuleKind → Option Line
+abbrev pub rule_said : Option RuleKind → Option model.Line
 rule_said None = None
 rule_said (Some k) = Some (rule k)
 
-abbrev pub step_said : (NodeNumber → Step) → Option ℕ → Option Line
+-- a step of a node, as it is said
+abbrev pub step_said : (NodeNumber → any.Step) → Option ℕ → Option model.Line
 step_said f None = None
-step_said f (Some n) = Some (step (f (record { 0 = n })))
+step_said f (Some n) = Some (step (f (node_number n)))
 
-abbrev pub change_said : (NodeNumber → ℤ → Step) → Option ChangeForm → Option Line
+abbrev pub change_said : (NodeNumber → ℤ → any.Step) → Option (ℕ × ℤ) → Option model.Line
 change_said f None = None
-change_said f (Some c) = Some (step (f (record { 0 = c.node }) c.number))
+change_said f (Some (n, z)) = Some (step (f (node_number n) z))
 
-abbrev pub SmallChange : Option ChangeForm → Type 0
-SmallChange None = Unit {0}
-SmallChange (Some c) = Small (Some c.number)
+-- the step of a form
+abbrev pub step_of : StepForm → any.Step
+step_of (Lock n) = steps.Lock (node_number n)
+step_of (Release n) = steps.Release (node_number n)
+step_of (Read n) = steps.Read (node_number n)
+step_of (Write n v) = steps.Write (node_number n) v
+step_of (Adjust n d) = steps.Adjust (node_number n) d
 
--- the numbers of a list of the line
-unfoldable pub listed : List ℕ → Numbers → List ℕ
-listed line l = front (pieces_from line l.from)
+-- a node line and a guard line with these numbers
+abbrev pub node_of : NodeForm → model.Line
+node_of f = node f.width f.value (listed f.parents.from)
 
--- a node line with these numbers, whose parents are such a list
-abbrev pub NodeFormed : List ℕ → ℕ → Option NodeForm → Type 0
-NodeFormed line from None = node_line (pieces_from line from) ≡ None
-NodeFormed line from (Some f) =
-    (node_line (pieces_from line from) ≡ Some (node f.width f.value (listed line f.parents)))
-    × Lists line f.parents.from f.parents × Small (Some f.value)
+abbrev pub guard_of : GuardForm → model.Line
+guard_of f = guard f.node (listed f.a.from) (listed f.b.from)
 
-abbrev pub GuardFormed : List ℕ → ℕ → Option GuardForm → Type 0
-GuardFormed line from None = guard_line (pieces_from line from) ≡ None
-GuardFormed line from (Some f) =
-    (guard_line (pieces_from line from) ≡ Some (guard f.node (listed line f.a) (listed line f.b)))
-    × Lists line f.a.from f.a × Lists line f.b.from f.b
+-- what a line says
+abbrev pub meaning : Line → model.Line
+meaning (Rule k) = rule k
+meaning (Node f) = node_of f
+meaning (Guard f) = guard_of f
+meaning Script = script
+meaning (Step f) = step (step_of f)
+meaning (Turns l) = turns (listed l.from)
 
-abbrev pub TurnsFormed : List ℕ → ℕ → Option Numbers → Type 0
-TurnsFormed line from None = turns_line (pieces_from line from) ≡ None
-TurnsFormed line from (Some l) = (turns_line (pieces_from line from) ≡ Some (turns (listed line l))) × Lists line l.from l
+abbrev pub said : Option Line → Option model.Line
+said None = None
+said (Some l) = Some (meaning l)

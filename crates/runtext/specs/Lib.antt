@@ -2,10 +2,9 @@ pub mod Counting
 pub mod Finding
 pub mod Forming
 pub mod Left
-pub mod Lettering
 pub mod Listing
+pub mod Lists
 pub mod Meaning
 pub mod Numerals
 pub mod Of
 pub mod Outcome
-pub mod Stepping

@@ -1,12 +1,9 @@
--- Numbers and lists of numbers, as they stand in a line.
-use Rattle.std.specs.Prelude.{◌≡◌, ℕ, ◌+◌, ◌<◌, ◌≤◌, max, List, [], ◌∷◌, length, ℤ, Some, None, Option}
+-- Numbers, as they stand in a line.
+use Rattle.std.specs.Prelude.{◌≡◌, ℕ, ◌+◌, ◌<◌, max, List, [], ◌∷◌, drop, ℤ, Some, None, Option}
 use Rattle.runtext_model.specs.Lines.{as_number, plain}
 use Rattle.runtext_model.specs.Words.{word_of}
-use Rattle.runtext.specs.declared.list.Number.{Number}
-use Rattle.runtext.specs.declared.list.Plain.{Plain}
-use Rattle.runtext.specs.declared.list.Numbers.{Numbers}
-use Rattle.runtext.specs.Finding.{Cuts}
-use Rattle.runtext.specs.Left.{pieces_from, piece_at}
+use Rattle.runtext.specs.declared.piece.Rest.{Rest}
+use Rattle.runtext.specs.Left.{pieces_left, size}
 use Rattle.runtext.specs.Numerals.{Small}
 
 -- the number that a piece is
@@ -25,15 +22,19 @@ abbrev pub first_plain : List (List ℕ) → Option ℕ
 first_plain [] = None
 first_plain (p ∷ ps) = plain_in p
 
--- the number that begins at a place
-abbrev pub NumberFound : List ℕ → ℕ → Option Number → Type 0
-NumberFound line from None = first_number (pieces_from line from) ≡ None
-NumberFound line from (Some n) = Cuts line from n.next × (number_in (piece_at line from) ≡ Some n.value) × Small (Some n.value)
+-- what is left after the first piece
+pub record Follows (r next : Rest) : Type 0 where
+  pub rest : pieces_left next ≡ drop 1 (pieces_left r)
+  pub shorter : size next < size r
 
-abbrev pub PlainFound : List ℕ → ℕ → Option Plain → Type 0
-PlainFound line from None = first_plain (pieces_from line from) ≡ None
-PlainFound line from (Some n) =
-    Cuts line from n.next × (plain_in (piece_at line from) ≡ Some n.value) × (n.value < 100000)
+-- the number that stands first
+abbrev pub NumberFound : Rest → Option (ℤ × Rest) → Type 0
+NumberFound r None = first_number (pieces_left r) ≡ None
+NumberFound r (Some (z, next)) = (first_number (pieces_left r) ≡ Some z) × Follows r next × Small (Some z)
+
+abbrev pub PlainFound : Rest → Option (ℕ × Rest) → Type 0
+PlainFound r None = first_plain (pieces_left r) ≡ None
+PlainFound r (Some (n, next)) = (first_plain (pieces_left r) ≡ Some n) × Follows r next × (n < 100000)
 
 -- the plain numbers that stand first
 abbrev pub front : List (List ℕ) → List ℕ
@@ -45,15 +46,11 @@ abbrev pub behind : List (List ℕ) → List (List ℕ)
 behind [] = []
 behind (p ∷ ps) = elim (plain_in p) [ None ↦ p ∷ ps | Some n ↦ behind ps ]
 
+-- the numbers of the list that stands first
+unfoldable pub listed : Rest → List ℕ
+listed r = front (pieces_left r)
+
 -- the least limit from m on that all numbers are below
 abbrev pub above : ℕ → List ℕ → ℕ
 above m [] = m
 above m (n ∷ ns) = above (max m (n + 1)) ns
-
--- the list that begins at a place
-pub record Lists (line : List ℕ) (from : ℕ) (l : Numbers) : Type 0 where
-  pub begins : l.from ≡ from
-  pub count : l.count ≡ length (front (pieces_from line from))
-  pub limit : l.limit ≡ above 0 (front (pieces_from line from))
-  pub rest : pieces_from line l.next ≡ behind (pieces_from line from)
-  pub within : l.next ≤ length line + 1

@@ -29,18 +29,18 @@ description_of s steps turns = record {
 }
 
 -- why a line was refused, and what it has left
-abbrev pub why : Result Description Refusal → Option Refusal
-why (Ok d) = None
+abbrev pub why : {A : Type 0} → Result A Refusal → Option Refusal
+why (Ok x) = None
 why (Err e) = Some e
 
 abbrev pub left : Description → Result Description Refusal → Description
 left d (Ok e) = e
 left d (Err e) = d
 
--- a line that says l is taken or refused with r: the setup s and the buffers become s', ss' and ts', and what stands in the
+-- a line that says l is taken, or refused with the error of r: the setup s and the buffers become s', ss' and ts', and what stands in the
 -- buffers after the steps and the turns stays
-pub record Takes (s s' : Setup) (ss ss' : List Step) (ts ts' : List TransactionNumber) (l : Option Line) (r : Option Refusal) : Type 0 where
-  pub answers : r ≡ why (accepted (description_of s ss ts) l)
+pub record Takes (s s' : Setup) (ss ss' : List Step) (ts ts' : List TransactionNumber) (l : Option Line) (r : Result (Unit {0}) Refusal) : Type 0 where
+  pub answers : why r ≡ why (accepted (description_of s ss ts) l)
   pub leaves : description_of s' ss' ts' ≡ left (description_of s ss ts) (accepted (description_of s ss ts) l)
   pub more_steps : s.steps ≤ s'.steps
   pub kept_steps : drop s'.steps ss' ≡ drop s'.steps ss

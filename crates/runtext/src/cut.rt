@@ -1,18 +1,52 @@
-// Where the pieces of a text end.
-ghost use Rattle.std.specs.Prelude.{◌≡◌, ◌+◌, ◌-◌, ◌<◌, ◌≤◌, length, drop};
-ghost use Rattle.runtext_model.specs.Pieces.{pieces};
-ghost use Rattle.runtext.specs.Left.{piece_length};
+// Cutting a text at a byte.
+ghost use Rattle.std.specs.Prelude.{◌≡◌, ◌==◌, position};
+ghost use Rattle.runtext_model.specs.Accepting.{is_empty, is_some};
+ghost use Rattle.runtext.specs.Left.{pieces_left, Cut, FirstPiece};
 
-// Where the piece ends that begins at `from`: at the next byte `cut`, or where the bytes end.
-pub(crate) fn piece_end(bytes: &[u8], from: usize, cut: u8) -> usize
-    requires { from ≤ length bytes.now }
-    ensures from { from ≤ result }
-    ensures within { result ≤ length bytes.now }
-    ensures is { result ≡ from + piece_length cut (drop from bytes.now) }
+use crate::part::Part;
+use crate::piece::{Piece, Rest};
+
+fn place_of(bytes: &[u8], cut: u8) -> Option<usize>
+    ensures { result ≡ position (λ b. b == cut) bytes.now }
 {
-    let mut i = from;
-    while i < bytes.len() && bytes[i] != cut {
-        i += 1;
+    bytes.iter().position(|b| *b == cut)
+}
+
+impl<'a> Piece<'a> {
+    // What stands before the first byte `cut` and what stands after it, if there is one.
+    pub(crate) fn split_once(self, cut: u8) -> Option<(Piece<'a>, Piece<'a>)>
+        ensures { Cut cut self.entry result }
+    {
+        let Part { bytes, at } = self.part;
+        let end = place_of(bytes, cut)?;
+        let before = Part {
+            bytes: &bytes[..end],
+            at,
+        };
+        let after = Part {
+            bytes: &bytes[end + 1..],
+            at: at + end + 1,
+        };
+        Some((Piece { part: before }, Piece { part: after }))
     }
-    i
+}
+
+impl<'a> Rest<'a> {
+    // Nothing may be left.
+    pub(crate) fn end(self) -> Option<()>
+        ensures { is_some result ≡ is_empty (pieces_left self.entry) }
+    {
+        self.0.is_none().then_some(())
+    }
+
+    // The first piece, and what is left after it.
+    pub(crate) fn piece(self) -> Option<(Part<'a>, Rest<'a>)>
+        ensures { FirstPiece self.entry result }
+    {
+        let piece = self.0?;
+        match piece.split_once(b' ') {
+            Some((first, next)) => Some((first.part, Rest(Some(next)))),
+            None => Some((piece.part, Rest(None))),
+        }
+    }
 }

@@ -1,48 +1,17 @@
 // The forms of the lines, after their first letter.
-ghost use Rattle.std.specs.Prelude.{◌≡◌, ◌+◌, ◌≤◌, length, ℤ};
+ghost use Rattle.std.specs.Prelude.{◌≡◌, ℤ};
 ghost use Rattle.basics.specs.declared.node.NodeNumber.{NodeNumber as Node};
-ghost use Rattle.runtext_model.specs.Accepting.{is_empty};
-ghost use Rattle.runtext_model.specs.Lines.{kind_of, rule_line, step_line, change_line};
+ghost use Rattle.runtext_model.specs.Lines.{kind_of, rule_line, node_line, guard_line, script_line, step_line, change_line, turns_line};
 ghost use Rattle.scripts_model.specs.declared.step.Step.{Step};
-ghost use Rattle.runtext.specs.Forming.{rule_said, step_said, change_said, SmallChange, NodeFormed, GuardFormed, TurnsFormed};
-ghost use Rattle.runtext.specs.Left.{pieces_from};
+ghost use Rattle.runtext.specs.Forming.{said, rule_said, step_said, change_said};
+ghost use Rattle.runtext.specs.Left.{pieces_left};
 
-use crate::list::{Numbers, list_at, number_at, plain_at};
-use crate::part::Part;
-use crate::word::{Word, word_at};
+use crate::line::{GuardForm, Line, NodeForm};
+use crate::piece::Rest;
+use crate::word::Word;
 use runtext_model::kind::RuleKind;
 
-// A node's width, its first value and its parents.
-#[derive(Clone, Copy, Drop)]
-pub(crate) struct NodeForm {
-    pub(crate) width: u32,
-    pub(crate) value: i32,
-    pub(crate) parents: Numbers,
-}
-
-// A guard's node, its A and its B.
-#[derive(Clone, Copy, Drop)]
-pub(crate) struct GuardForm {
-    pub(crate) node: u32,
-    pub(crate) a: Numbers,
-    pub(crate) b: Numbers,
-}
-
-// A node, and the value or the amount of a change.
-#[derive(Clone, Copy, Drop)]
-pub(crate) struct ChangeForm {
-    pub(crate) node: u32,
-    pub(crate) number: i32,
-}
-
-// Whether the line has no piece from the place `from` on.
-pub(crate) fn is_end(line: Part, from: usize) -> bool
-    ensures { result ≡ is_empty (pieces_from line.entry.bytes.now from) }
-{
-    from > line.bytes.len()
-}
-
-// The rule of a letter.
+// The rule of a letter. `TryFrom` would need an error type that each caller drops.
 fn kind_of(letter: char) -> Option<RuleKind>
     ensures { rule_said result ≡ kind_of letter }
 {
@@ -54,110 +23,75 @@ fn kind_of(letter: char) -> Option<RuleKind>
     }
 }
 
-pub(crate) fn rule_form(line: Part, from: usize) -> Option<RuleKind>
-    requires { line.at + length line.bytes.now ≤ 16384 }
-    ensures { rule_said result ≡ rule_line (pieces_from line.entry.bytes.now from) }
+pub(crate) fn rule_form<'a>(rest: Rest<'a>) -> Option<Line<'a>>
+    ensures { said result ≡ rule_line (pieces_left rest.entry) }
 {
-    let Some(found) = word_at(line, from) else {
+    let (word, rest) = rest.word()?;
+    rest.end()?;
+    let Word::Letter(part) = word else {
         return None;
     };
-    if !is_end(line, found.next) {
-        return None;
-    }
-    match found.word {
-        Word::Letter(part) => kind_of(part.bytes[0] as char),
-        _ => None,
-    }
+    Some(Line::Rule(kind_of(part.bytes[0] as char)?))
 }
 
-pub(crate) fn node_form(line: Part, from: usize) -> Option<NodeForm>
-    requires { line.at + length line.bytes.now ≤ 16384 }
-    ensures { NodeFormed line.entry.bytes.now from result }
+pub(crate) fn node_form<'a>(rest: Rest<'a>) -> Option<Line<'a>>
+    ensures { said result ≡ node_line (pieces_left rest.entry) }
 {
-    let Some(width) = plain_at(line, from) else {
-        return None;
-    };
-    let Some(value) = number_at(line, width.next) else {
-        return None;
-    };
-    let parents = list_at(line, value.next);
-    if !is_end(line, parents.next) {
-        return None;
-    }
-    Some(NodeForm {
-        width: width.value,
-        value: value.value,
+    let (width, rest) = rest.plain()?;
+    let (value, rest) = rest.number()?;
+    let (parents, rest) = rest.list();
+    rest.end()?;
+    Some(Line::Node(NodeForm {
+        width,
+        value,
         parents,
-    })
+    }))
 }
 
-pub(crate) fn guard_form(line: Part, from: usize) -> Option<GuardForm>
-    requires { line.at + length line.bytes.now ≤ 16384 }
-    ensures { GuardFormed line.entry.bytes.now from result }
+pub(crate) fn guard_form<'a>(rest: Rest<'a>) -> Option<Line<'a>>
+    ensures { said result ≡ guard_line (pieces_left rest.entry) }
 {
-    let Some(node) = plain_at(line, from) else {
+    let (node, rest) = rest.plain()?;
+    let (a, rest) = rest.list();
+    let (word, rest) = rest.word()?;
+    let Word::Slash(_) = word else {
         return None;
     };
-    let a = list_at(line, node.next);
-    let Some(found) = word_at(line, a.next) else {
-        return None;
-    };
-    let Word::Slash(_) = found.word else {
-        return None;
-    };
-    let b = list_at(line, found.next);
-    if !is_end(line, b.next) {
-        return None;
-    }
-    Some(GuardForm {
-        node: node.value,
-        a,
-        b,
-    })
+    let (b, rest) = rest.list();
+    rest.end()?;
+    Some(Line::Guard(GuardForm { node, a, b }))
+}
+
+pub(crate) fn script_form<'a>(rest: Rest<'a>) -> Option<Line<'a>>
+    ensures { said result ≡ script_line (pieces_left rest.entry) }
+{
+    rest.end()?;
+    Some(Line::Script)
 }
 
 // A node alone.
-pub(crate) fn step_form(line: Part, from: usize) -> Option<u32>
-    requires { line.at + length line.bytes.now ≤ 16384 }
-    ensures { (f : Node → Step) → step_said f result ≡ step_line f (pieces_from line.entry.bytes.now from) }
+pub(crate) fn step_form(rest: Rest) -> Option<u32>
+    ensures { (f : Node → Step) → step_said f result ≡ step_line f (pieces_left rest.entry) }
 {
-    let Some(node) = plain_at(line, from) else {
-        return None;
-    };
-    if !is_end(line, node.next) {
-        return None;
-    }
-    Some(node.value)
+    let (node, rest) = rest.plain()?;
+    rest.end()?;
+    Some(node)
 }
 
-pub(crate) fn change_form(line: Part, from: usize) -> Option<ChangeForm>
-    requires { line.at + length line.bytes.now ≤ 16384 }
-    ensures small { SmallChange result }
-    ensures says { (f : Node → ℤ → Step) → change_said f result ≡ change_line f (pieces_from line.entry.bytes.now from) }
+// A node, and a value or an amount.
+pub(crate) fn change_form(rest: Rest) -> Option<(u32, i32)>
+    ensures { (f : Node → ℤ → Step) → change_said f result ≡ change_line f (pieces_left rest.entry) }
 {
-    let Some(node) = plain_at(line, from) else {
-        return None;
-    };
-    let Some(found) = number_at(line, node.next) else {
-        return None;
-    };
-    if !is_end(line, found.next) {
-        return None;
-    }
-    Some(ChangeForm {
-        node: node.value,
-        number: found.value,
-    })
+    let (node, rest) = rest.plain()?;
+    let (number, rest) = rest.number()?;
+    rest.end()?;
+    Some((node, number))
 }
 
-pub(crate) fn turns_form(line: Part, from: usize) -> Option<Numbers>
-    requires place { line.at + length line.bytes.now ≤ 16384 }
-    requires within { from ≤ length line.bytes.now + 1 }
-    ensures { TurnsFormed line.entry.bytes.now from result }
+pub(crate) fn turns_form<'a>(rest: Rest<'a>) -> Option<Line<'a>>
+    ensures { said result ≡ turns_line (pieces_left rest.entry) }
 {
-    let turns = list_at(line, from);
-    if !is_end(line, turns.next) {
-        return None;
-    }
-    Some(turns)
+    let (turns, rest) = rest.list();
+    rest.end()?;
+    Some(Line::Turns(turns))
 }

@@ -1,74 +1,49 @@
 // The form of a line, chosen by its first letter.
-ghost use Rattle.std.specs.Prelude.{◌≡◌, ◌+◌, ◌≤◌, length};
-ghost use Rattle.runtext_model.specs.Lines.{line_of};
-ghost use Rattle.runtext.specs.Lettering.{form_of};
-ghost use Rattle.runtext.specs.Of.{Takes};
+ghost use Rattle.std.specs.Prelude.{◌≡◌};
+ghost use Rattle.runtext_model.specs.Lines.{line_of, form};
+ghost use Rattle.runtext.specs.Forming.{said};
+ghost use Rattle.runtext.specs.Left.{pieces_left};
 
-use crate::part::Part;
-use crate::setup::Setup;
-use crate::steps::StepForm;
-use crate::word::{Word, word_at};
-use basics::refusal::Refusal;
-use basics::transaction::TransactionNumber;
-use scripts_model::step::Step;
+use crate::form::{
+    change_form, guard_form, node_form, rule_form, script_form, step_form, turns_form,
+};
+use crate::line::{Line, StepForm};
+use crate::piece::{Piece, Rest};
+use crate::word::Word;
 
-#[derive(Clone, Copy, Drop)]
-enum Form {
-    Rule,
-    Node,
-    Guard,
-    Script,
-    Step(StepForm),
-    Turns,
-}
-
-fn form_of(letter: char) -> Option<Form>
-    ensures { result ≡ form_of letter }
+// What a line says after this letter.
+fn said_after<'a>(letter: char, rest: Rest<'a>) -> Option<Line<'a>>
+    ensures { said result ≡ form letter (pieces_left rest.entry) }
 {
+    // `map(Line::Step)` is not covered: a line names the lifetime of its text, and what is mapped does not.
     match letter {
-        'M' => Some(Form::Rule),
-        'N' => Some(Form::Node),
-        'G' => Some(Form::Guard),
-        'S' => Some(Form::Script),
-        'L' => Some(Form::Step(StepForm::Lock)),
-        'U' => Some(Form::Step(StepForm::Release)),
-        'R' => Some(Form::Step(StepForm::Read)),
-        'W' => Some(Form::Step(StepForm::Write)),
-        'A' => Some(Form::Step(StepForm::Adjust)),
-        'Q' => Some(Form::Turns),
+        'M' => rule_form(rest),
+        'N' => node_form(rest),
+        'G' => guard_form(rest),
+        'S' => script_form(rest),
+        'L' => Some(Line::Step(StepForm::Lock(step_form(rest)?))),
+        'U' => Some(Line::Step(StepForm::Release(step_form(rest)?))),
+        'R' => Some(Line::Step(StepForm::Read(step_form(rest)?))),
+        'W' => {
+            let (node, value) = change_form(rest)?;
+            Some(Line::Step(StepForm::Write(node, value)))
+        }
+        'A' => {
+            let (node, amount) = change_form(rest)?;
+            Some(Line::Step(StepForm::Adjust(node, amount)))
+        }
+        'Q' => turns_form(rest),
         _ => None,
     }
 }
 
-impl Setup {
-    // Adds what a line says, or says why not.
-    pub(crate) fn take_line(
-        &mut self,
-        line: Part,
-        steps: &mut [Step],
-        turns: &mut [TransactionNumber],
-    ) -> Option<Refusal>
-        requires place { line.at + length line.bytes.now ≤ 16384 }
-        requires steps { 1024 ≤ length steps.old }
-        requires turns { 4096 ≤ length turns.old }
-        ensures { Takes self.old self.new steps.old steps.new turns.old turns.new (line_of line.entry.bytes.now) result }
-    {
-        let Some(found) = word_at(line, 0) else {
-            return Some(Refusal::MalformedLine);
-        };
-        let Word::Letter(part) = found.word else {
-            return Some(Refusal::MalformedLine);
-        };
-        let Some(form) = form_of(part.bytes[0] as char) else {
-            return Some(Refusal::MalformedLine);
-        };
-        match form {
-            Form::Rule => self.rule_line(line, found.next),
-            Form::Node => self.node_line(line, found.next),
-            Form::Guard => self.guard_line(line, found.next),
-            Form::Script => self.script_line(line, found.next, steps),
-            Form::Step(step) => self.step_line(step, line, found.next, steps),
-            Form::Turns => self.turns_line(line, found.next, turns),
-        }
-    }
+// What a line says, if it has one of the forms.
+pub(crate) fn line_of<'a>(line: Piece<'a>) -> Option<Line<'a>>
+    ensures { said result ≡ line_of line.entry.part.bytes.now }
+{
+    let (word, rest) = Rest(Some(line)).word()?;
+    let Word::Letter(part) = word else {
+        return None;
+    };
+    said_after(part.bytes[0] as char, rest)
 }

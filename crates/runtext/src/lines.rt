@@ -1,80 +1,64 @@
-// What each line of a text adds.
-ghost use Rattle.std.specs.Prelude.{◌+◌, ◌≤◌, List, length};
+// The lines of the rule, of a script and of the turn list.
+ghost use Rattle.std.specs.Prelude.{◌≤◌, List, length, Some};
 ghost use Rattle.basics.specs.declared.transaction.TransactionNumber.{TransactionNumber as Transaction};
-ghost use Rattle.runtext_model.specs.Lines.{rule_line, script_line, turns_line};
+ghost use Rattle.runtext_model.specs.Lines.{rule, script, turns as turn_list};
 ghost use Rattle.scripts_model.specs.declared.step.Step.{Step as AnyStep};
-ghost use Rattle.runtext.specs.Left.{pieces_from};
+ghost use Rattle.runtext.specs.Listing.{listed};
 ghost use Rattle.runtext.specs.Of.{Takes};
 
+use crate::bounds::{STEPS, TURNS};
 use crate::fill::fill;
-use crate::form::{is_end, rule_form, turns_form};
-use crate::part::Part;
+use crate::numbers::Numbers;
 use crate::setup::Setup;
 use basics::refusal::Refusal;
 use basics::transaction::TransactionNumber;
+use runtext_model::kind::RuleKind;
 use scripts_model::step::Step;
 
 impl Setup {
-    pub(crate) fn rule_line(&mut self, line: Part, from: usize) -> Option<Refusal>
-        requires { line.at + length line.bytes.now ≤ 16384 }
-        ensures { (ss : List AnyStep) (ts : List Transaction) → Takes self.old self.new ss ss ts ts (rule_line (pieces_from line.entry.bytes.now from)) result }
+    pub(crate) fn rule_line(&mut self, kind: RuleKind) -> Result<(), Refusal>
+        ensures { (ss : List AnyStep) (ts : List Transaction) → Takes self.old self.new ss ss ts ts (Some (rule kind)) result }
     {
-        let Some(kind) = rule_form(line, from) else {
-            return Some(Refusal::MalformedLine);
-        };
-        if let Some(_) = self.kind {
-            return Some(Refusal::MisplacedLine);
+        if self.kind.is_some() {
+            return Err(Refusal::MisplacedLine);
         }
         self.kind = Some(kind);
-        None
+        Ok(())
     }
 
-    pub(crate) fn script_line(
-        &mut self,
-        line: Part,
-        from: usize,
-        steps: &mut [Step],
-    ) -> Option<Refusal>
-        requires room { 1024 ≤ length steps.old }
-        ensures { (ts : List Transaction) → Takes self.old self.new steps.old steps.new ts ts (script_line (pieces_from line.entry.bytes.now from)) result }
+    pub(crate) fn script_line(&mut self, steps: &mut [Step]) -> Result<(), Refusal>
+        requires { 1024 ≤ length steps.old }
+        ensures { (ts : List Transaction) → Takes self.old self.new steps.old steps.new ts ts (Some script) result }
     {
-        if !is_end(line, from) {
-            return Some(Refusal::MalformedLine);
-        }
         if !self.takes_scripts() {
-            return Some(Refusal::MisplacedLine);
+            return Err(Refusal::MisplacedLine);
         }
-        if (self.steps >= 1024) | (self.scripts >= 32) {
-            return Some(Refusal::LimitExceeded);
+        // By `|`, here and below: one goal in place of one for each limit.
+        if (self.steps >= STEPS) | (self.scripts >= 32) {
+            return Err(Refusal::LimitExceeded);
         }
-        steps[self.steps as usize] = Step::End;
+        steps[usize::from(self.steps)] = Step::End;
         self.steps += 1;
         self.scripts += 1;
-        None
+        Ok(())
     }
 
     pub(crate) fn turns_line(
         &mut self,
-        line: Part,
-        from: usize,
+        list: Numbers,
         turns: &mut [TransactionNumber],
-    ) -> Option<Refusal>
-        requires place { line.at + length line.bytes.now ≤ 16384 }
-        requires within { from ≤ length line.bytes.now + 1 }
-        requires room { 4096 ≤ length turns.old }
-        ensures { (ss : List AnyStep) → Takes self.old self.new ss ss turns.old turns.new (turns_line (pieces_from line.entry.bytes.now from)) result }
+    ) -> Result<(), Refusal>
+        requires { 4096 ≤ length turns.old }
+        ensures { (ss : List AnyStep) → Takes self.old self.new ss ss turns.old turns.new (Some (turn_list (listed list.entry.from))) result }
     {
-        let Some(list) = turns_form(line, from) else {
-            return Some(Refusal::MalformedLine);
-        };
         if !self.takes_scripts() {
-            return Some(Refusal::MisplacedLine);
+            return Err(Refusal::MisplacedLine);
         }
-        if (list.count > 4096) | (list.limit > self.scripts as u32) {
-            return Some(Refusal::LimitExceeded);
+        if (list.count > TURNS) | (list.limit > u32::from(self.scripts)) {
+            return Err(Refusal::LimitExceeded);
         }
-        let count = fill(line, list, turns);
+        let count = fill(list, turns);
         self.turns = Some(count as u16);
-        None
+        Ok(())
     }
 }

@@ -1,5 +1,5 @@
 // The node lines and the guard lines of a text.
-ghost use Rattle.std.specs.Prelude.{◌≡◌, ℕ, ◌+◌, ◌≤◌, ◌&&◌, List, map, length};
+ghost use Rattle.std.specs.Prelude.{◌≡◌, ◌≤◌, ◌&&◌, List, map, length, Some};
 ghost use Rattle.basics.specs.declared.transaction.TransactionNumber.{TransactionNumber as Transaction};
 ghost use Rattle.image_model.specs.Fields.{fits};
 ghost use Rattle.plans.specs.Building.{good_width};
@@ -7,96 +7,95 @@ ghost use Rattle.plans.specs.Meaning.{nodes_of};
 ghost use Rattle.rules.specs.Adding.{in_limits};
 ghost use Rattle.rules.specs.Meaning.{guards_of};
 ghost use Rattle.runtext_model.specs.Accepting.{node_number};
-ghost use Rattle.runtext_model.specs.Lines.{node_line, guard_line};
 ghost use Rattle.scripts_model.specs.declared.step.Step.{Step as AnyStep};
-ghost use Rattle.runtext.specs.Forming.{listed};
-ghost use Rattle.runtext.specs.Left.{pieces_from};
-ghost use Rattle.runtext.specs.Listing.{Lists};
+ghost use Rattle.runtext.specs.Forming.{node_of, guard_of};
+ghost use Rattle.runtext.specs.Listing.{listed};
 ghost use Rattle.runtext.specs.Of.{Takes};
 
+use crate::bounds::NODES;
 use crate::fill::fill;
-use crate::form::{GuardForm, guard_form, node_form};
-use crate::part::Part;
+use crate::line::{GuardForm, NodeForm};
+use crate::numbers::Numbers;
 use crate::sections::node_count;
 use crate::setup::Setup;
 use basics::node::NodeNumber;
 use basics::refusal::Refusal;
 use rules::guard::GuardTable;
 
-// Whether the width is one of a field, and the value lies in the field's range.
+// Whether the width is one of a field, and the value lies in the field's range. The crate images would be needed for two
+// comparisons.
 fn is_field(width: u32, value: i32) -> bool
     ensures { result ≡ (good_width width && fits width value) }
 {
+    // Tried: with `(2..=16).contains(&width)` the search for `returns` gave up.
     if width < 2 || width > 16 {
         return false;
     }
     let half = 1 << (width - 1);
-    -half <= value && value < half
+    (-half..half).contains(&value)
 }
 
 // Whether there is room for one more guard, and only nodes of the plan are named.
 fn in_limits(table: &GuardTable, form: GuardForm) -> bool
-    ensures { (line : List ℕ) → Lists line form.a.from form.a → Lists line form.b.from form.b → result ≡ in_limits (nodes_of table.now.plan) (guards_of table.now) (node_number form.node) (map node_number (listed line form.a)) (map node_number (listed line form.b)) }
+    ensures { result ≡ in_limits (nodes_of table.now.plan) (guards_of table.now) (node_number form.entry.node) (map node_number (listed form.entry.a.from)) (map node_number (listed form.entry.b.from)) }
 {
     let count = node_count(table);
+    // By `&`: one goal that has the whole condition in it. Tried: with `&&` two goals of its branches stayed open.
     (table.count() < 256)
         & ((form.node < count) & ((form.a.limit <= count) & (form.b.limit <= count)))
 }
 
+// The nodes of a list, in an array that is lent for them: nothing is allocated.
+fn nodes_in<'b>(list: Numbers, buffer: &'b mut [NodeNumber; NODES]) -> &'b [NodeNumber]
+    requires few { list.count ≤ 64 }
+    requires below { list.limit ≤ 256 }
+    ensures { result.now ≡ map node_number (listed list.entry.from) }
+{
+    let count = fill(list, buffer);
+    &buffer[..count]
+}
+
 impl Setup {
-    pub(crate) fn node_line(&mut self, line: Part, from: usize) -> Option<Refusal>
-        requires { line.at + length line.bytes.now ≤ 16384 }
-        ensures { (ss : List AnyStep) (ts : List Transaction) → 1024 ≤ length ss → Takes self.old self.new ss ss ts ts (node_line (pieces_from line.entry.bytes.now from)) result }
+    pub(crate) fn node_line(&mut self, form: NodeForm) -> Result<(), Refusal>
+        ensures { (ss : List AnyStep) (ts : List Transaction) → 1024 ≤ length ss → Takes self.old self.new ss ss ts ts (Some (node_of form.entry)) result }
     {
-        let Some(form) = node_form(line, from) else {
-            return Some(Refusal::MalformedLine);
-        };
         if !self.takes_nodes() {
-            return Some(Refusal::MisplacedLine);
+            return Err(Refusal::MisplacedLine);
         }
         let count = node_count(&self.table);
-        if (count >= 64) | !is_field(form.width, form.value) {
-            return Some(Refusal::LimitExceeded);
+        // By `|`: what `is_field` answers is then known on each way.
+        if (count >= NODES as u32) | !is_field(form.width, form.value) {
+            return Err(Refusal::LimitExceeded);
         }
         // More parents than there are nodes cannot rise and be lower.
-        if (form.parents.limit > count) | (form.parents.count > 64) {
-            return Some(Refusal::BadParents);
+        if form.parents.limit > count || form.parents.count > NODES {
+            return Err(Refusal::BadParents);
         }
-        let mut parents = [NodeNumber(0); 64];
-        let listed = fill(line, form.parents, &mut parents);
-        match self.table.add_node(form.width as u8, &parents[0..listed]) {
-            Ok(_) => {
-                self.values[count as usize] = form.value;
-                None
-            }
-            Err(cause) => Some(cause),
-        }
+        let mut buffer = [NodeNumber(0); NODES];
+        let parents = nodes_in(form.parents, &mut buffer);
+        self.table.add_node(form.width as u8, parents)?;
+        self.values[count as usize] = form.value;
+        Ok(())
     }
 
-    pub(crate) fn guard_line(&mut self, line: Part, from: usize) -> Option<Refusal>
-        requires { line.at + length line.bytes.now ≤ 16384 }
-        ensures { (ss : List AnyStep) (ts : List Transaction) → 1024 ≤ length ss → Takes self.old self.new ss ss ts ts (guard_line (pieces_from line.entry.bytes.now from)) result }
+    pub(crate) fn guard_line(&mut self, form: GuardForm) -> Result<(), Refusal>
+        ensures { (ss : List AnyStep) (ts : List Transaction) → 1024 ≤ length ss → Takes self.old self.new ss ss ts ts (Some (guard_of form.entry)) result }
     {
-        let Some(form) = guard_form(line, from) else {
-            return Some(Refusal::MalformedLine);
-        };
         if !self.takes_guards() {
-            return Some(Refusal::MisplacedLine);
+            return Err(Refusal::MisplacedLine);
         }
         if !in_limits(&self.table, form) {
-            return Some(Refusal::LimitExceeded);
+            return Err(Refusal::LimitExceeded);
         }
         // More nodes than the plan has cannot rise.
-        if (form.a.count > 64) | (form.b.count > 64) {
-            return Some(Refusal::BadGuard);
+        if form.a.count > NODES || form.b.count > NODES {
+            return Err(Refusal::BadGuard);
         }
-        let mut a = [NodeNumber(0); 64];
-        let mut b = [NodeNumber(0); 64];
-        let a_count = fill(line, form.a, &mut a);
-        let b_count = fill(line, form.b, &mut b);
-        match self.table.add(NodeNumber(form.node as u8), &a[0..a_count], &b[0..b_count]) {
-            Ok(_) => None,
-            Err(cause) => Some(cause),
-        }
+        let mut a_buffer = [NodeNumber(0); NODES];
+        let mut b_buffer = [NodeNumber(0); NODES];
+        let a = nodes_in(form.a, &mut a_buffer);
+        let b = nodes_in(form.b, &mut b_buffer);
+        self.table.add(NodeNumber(form.node as u8), a, b)?;
+        Ok(())
     }
 }

@@ -1,4 +1,6 @@
-// Reading a whole text.
+// Reading a whole text. The two buffers stay slices beside one another: they may be longer than is asked, and the clauses
+// say of each what stays. A function that writes one requires that it is long enough: in a struct of both it would be handed
+// the other too, and would have to say that that one stays.
 ghost use Rattle.std.specs.Prelude.{◌≡◌, ◌+◌, ◌≤◌, List, length, Ok};
 ghost use Rattle.basics.specs.declared.transaction.TransactionNumber.{TransactionNumber as Transaction};
 ghost use Rattle.runtext_model.specs.Canonical.{Canonical};
@@ -7,12 +9,13 @@ ghost use Rattle.runtext_model.specs.Pieces.{pieces};
 ghost use Rattle.runtext_model.specs.Reading.{last_piece, read_lines, read_text, unread as cause_unread};
 ghost use Rattle.runtext_model.specs.Writing.{written};
 ghost use Rattle.scripts_model.specs.declared.step.Step.{Step as AnyStep};
-ghost use Rattle.runtext.specs.Of.{description_of};
+ghost use Rattle.runtext.specs.Of.{description_of, why};
 ghost use Rattle.runtext.specs.Outcome.{fault_of, fault_unless, Describes, LeftBy};
 
-use crate::cut::piece_end;
+use crate::bounds::{NODES, STEPS, TURNS};
 use crate::fault::Fault;
 use crate::part::Part;
+use crate::piece::Piece;
 use crate::sections::node_count;
 use crate::setup::Setup;
 use basics::refusal::Refusal;
@@ -22,16 +25,16 @@ use rules::guard::GuardTable;
 use scripts_model::step::Step;
 
 // Why a text is not looked at.
-fn unread(steps: usize, turns: usize, text: usize) -> Option<Refusal>
-    ensures { result ≡ cause_unread steps turns text }
+fn unread(steps: usize, turns: usize, text: usize) -> Result<(), Refusal>
+    ensures { why result ≡ cause_unread steps turns text }
 {
-    if steps < 1024 || turns < 4096 {
-        return Some(Refusal::ShortBuffer);
+    if steps < usize::from(STEPS) || turns < TURNS {
+        return Err(Refusal::ShortBuffer);
     }
     if text > 16384 {
-        return Some(Refusal::TextTooLong);
+        return Err(Refusal::TextTooLong);
     }
-    None
+    Ok(())
 }
 
 impl Setup {
@@ -42,7 +45,7 @@ impl Setup {
         Setup {
             kind: None,
             table: GuardTable::new(Plan::new()),
-            values: [0; 64],
+            values: [0; NODES],
             scripts: 0,
             steps: 0,
             turns: None,
@@ -53,21 +56,18 @@ impl Setup {
     fn last_piece<'a>(&self, part: Part<'a>, line: u32) -> Result<(), Fault<'a>>
         ensures { (ss : List AnyStep) (ts : List Transaction) → fault_of result ≡ (last_piece (description_of self.now ss ts) line part.entry.at part.entry.bytes.now).fault }
     {
-        if part.bytes.len() != 0 {
-            return Err(Fault {
-                refusal: Refusal::MalformedLine,
-                line,
-                part,
-            });
-        }
-        if node_count(&self.table) == 0 {
-            return Err(Fault {
-                refusal: Refusal::MisplacedLine,
-                line,
-                part,
-            });
-        }
-        Ok(())
+        let refusal = if part.bytes.len() != 0 {
+            Refusal::MalformedLine
+        } else if node_count(&self.table) == 0 {
+            Refusal::MisplacedLine
+        } else {
+            return Ok(());
+        };
+        Err(Fault {
+            refusal,
+            line,
+            part,
+        })
     }
 
     // Takes the lines one after the other, up to the first that is faulty.
@@ -83,30 +83,24 @@ impl Setup {
         ensures answers { fault_of result ≡ (read_lines (description_of self.old steps.old turns.old) 1 0 (pieces 10 text.now)).fault }
         ensures leaves { Describes (read_lines (description_of self.old steps.old turns.old) 1 0 (pieces 10 text.now)).description self.new steps.old steps.new turns.old turns.new }
     {
-        let mut at = 0;
+        let mut left = Piece {
+            part: Part { bytes: text, at: 0 },
+        };
+        // Counted by hand: each piece needs its place in the text, and what is left after the last line feed is looked at apart.
         let mut line = 1;
-        let mut end = piece_end(text, 0, b'\n');
-        while end < text.len() {
-            let part = Part {
-                bytes: &text[at..end],
-                at,
-            };
-            if let Some(refusal) = self.take_line(part, steps, turns) {
+        while let Some((piece, next)) = left.split_once(b'\n') {
+            // Tried: with `map_err(..)?` the goals `answers` and `leaves` of a refused line stayed open.
+            if let Err(refusal) = self.take_line(piece, steps, turns) {
                 return Err(Fault {
                     refusal,
                     line,
-                    part,
+                    part: piece.part,
                 });
             }
-            at = end + 1;
+            left = next;
             line += 1;
-            end = piece_end(text, at, b'\n');
         }
-        let part = Part {
-            bytes: &text[at..end],
-            at,
-        };
-        self.last_piece(part, line)
+        self.last_piece(left.part, line)
     }
 }
 
@@ -122,16 +116,14 @@ pub fn read<'a>(
     ensures text { result ≡ Ok tt → text.now ≡ written (description_of setup.new steps.new turns.new) }
     ensures canonical { Canonical }
 {
-    if let Some(refusal) = unread(steps.len(), turns.len(), text.len()) {
-        return Err(Fault {
-            refusal,
-            line: 0,
-            part: Part {
-                bytes: &text[0..0],
-                at: 0,
-            },
-        });
-    }
+    unread(steps.len(), turns.len(), text.len()).map_err(|refusal| Fault {
+        refusal,
+        line: 0,
+        part: Part {
+            bytes: &text[..0],
+            at: 0,
+        },
+    })?;
     *setup = Setup::new();
     setup.read_lines(text, steps, turns)
 }

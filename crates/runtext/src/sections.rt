@@ -3,7 +3,7 @@ ghost use Rattle.std.specs.Prelude.{◌≡◌, ℕ, ◌≤◌, not, ◌&&◌, Li
 ghost use Rattle.basics.specs.declared.transaction.TransactionNumber.{TransactionNumber};
 ghost use Rattle.plans.specs.Meaning.{nodes_of};
 ghost use Rattle.rules.specs.Meaning.{guards_of};
-ghost use Rattle.runtext_model.specs.Accepting.{is_empty, is_some, is_guards, in_section};
+ghost use Rattle.runtext_model.specs.Accepting.{is_empty, is_some, in_section};
 ghost use Rattle.runtext_model.specs.Lines.{node, guard, script, step, turns};
 ghost use Rattle.scripts_model.specs.declared.step.Step.{Step};
 ghost use Rattle.runtext.specs.Of.{description_of, turns_in};
@@ -30,60 +30,39 @@ fn has_guards(table: &GuardTable) -> bool
     table.count() != 0
 }
 
-fn is_guards(kind: Option<RuleKind>) -> bool
-    ensures { result ≡ is_guards kind }
-{
-    match kind {
-        Some(RuleKind::Guards) => true,
-        _ => false,
-    }
-}
-
-fn is_named(kind: Option<RuleKind>) -> bool
-    ensures { result ≡ is_some kind }
-{
-    match kind {
-        Some(_) => true,
-        None => false,
-    }
-}
-
-// Whether no step and no turn list has come yet.
-fn before_scripts(steps: u16, turns: Option<u16>) -> bool
-    ensures { (ss : List Step) (ts : List TransactionNumber) → 1024 ≤ length ss → result ≡ (is_empty (take steps ss) && not (is_some (turns_in turns ts))) }
-{
-    match turns {
-        Some(_) => false,
-        None => steps == 0,
-    }
-}
-
 impl Setup {
+    // Whether no step and no turn list has come yet.
+    fn before_scripts(&self) -> bool
+        ensures { (ss : List Step) (ts : List TransactionNumber) → 1024 ≤ length ss → result ≡ (is_empty (take self.now.steps ss) && not (is_some (turns_in self.now.turns ts))) }
+    {
+        self.steps == 0 && self.turns.is_none()
+    }
+
     // Whether a node line may stand here: after the rule, and before guards, scripts and turns.
     pub(crate) fn takes_nodes(&self) -> bool
         ensures { (ss : List Step) (ts : List TransactionNumber) → 1024 ≤ length ss → (w : ℕ) (v : ℤ) (ps : List ℕ) → result ≡ in_section (description_of self.now ss ts) (node w v ps) }
     {
-        is_named(self.kind) & (!has_guards(&self.table) & before_scripts(self.steps, self.turns))
+        self.kind.is_some() && !has_guards(&self.table) && self.before_scripts()
     }
 
     // Whether a guard may: under the guard rule, after the nodes, and before scripts and turns.
     pub(crate) fn takes_guards(&self) -> bool
         ensures { (ss : List Step) (ts : List TransactionNumber) → 1024 ≤ length ss → (n : ℕ) (a b : List ℕ) → result ≡ in_section (description_of self.now ss ts) (guard n a b) }
     {
-        is_guards(self.kind) & (has_nodes(&self.table) & before_scripts(self.steps, self.turns))
+        self.kind == Some(RuleKind::Guards) && has_nodes(&self.table) && self.before_scripts()
     }
 
     // Whether a script or the turn list may: after the nodes, and before the turn list.
     pub(crate) fn takes_scripts(&self) -> bool
         ensures { (ss : List Step) (ts : List TransactionNumber) → result ≡ in_section (description_of self.now ss ts) script }
     {
-        has_nodes(&self.table) & self.turns.is_none()
+        has_nodes(&self.table) && self.turns.is_none()
     }
 
     // Whether a step may: in a script.
     pub(crate) fn takes_steps(&self) -> bool
         ensures { (ss : List Step) (ts : List TransactionNumber) → 1024 ≤ length ss → (s : Step) → result ≡ in_section (description_of self.now ss ts) (step s) }
     {
-        (self.steps != 0) & self.takes_scripts()
+        self.steps != 0 && self.takes_scripts()
     }
 }

@@ -1,6 +1,7 @@
 ghost use Rattle.std.specs.Prelude.{◌≡◌, ◌≤◌, length};
 ghost use Rattle.runtext.specs.Counting.{turn_count};
 
+use crate::bounds::NODES;
 use rules::guard::GuardTable;
 use runtext_model::kind::RuleKind;
 
@@ -11,8 +12,8 @@ pub struct Setup {
     pub kind: Option<RuleKind>,
     // The plan and its guards.
     pub table: GuardTable,
-    // The first value of each node.
-    pub values: [i32; 64],
+    // The first value of each node. An array of all 64, since how many there are is the plan's to say.
+    pub values: [i32; NODES],
     // How many scripts there are, and how many steps with their ends; and how many turns, if the text has a turn list.
     pub scripts: u8,
     pub steps: u16,

@@ -1,128 +1,71 @@
 // The steps of a script.
-ghost use Rattle.std.specs.Prelude.{◌≡◌, ◌+◌, ◌≤◌, ◌&&◌, List, length, ℤ, int_le, nat_lt};
-ghost use Rattle.basics.specs.declared.node.NodeNumber.{NodeNumber as Node};
+ghost use Rattle.std.specs.Prelude.{◌≡◌, ◌≤◌, ◌&&◌, cond, List, length, Some, None, int_le, nat_lt};
 ghost use Rattle.basics.specs.declared.transaction.TransactionNumber.{TransactionNumber as Transaction};
-ghost use Rattle.plans.specs.Meaning.{nodes_of};
-ghost use Rattle.runtext_model.specs.Accepting.{good_step};
-ghost use Rattle.runtext_model.specs.Lines.{step_line, change_line};
-ghost use Rattle.scripts_model.specs.declared.step.Step.{Step as AnyStep};
-ghost use Rattle.runtext.specs.Left.{pieces_from};
+ghost use Rattle.runtext_model.specs.Accepting.{node_number, good_step};
+ghost use Rattle.runtext_model.specs.Lines.{step};
+ghost use Rattle.runtext.specs.Forming.{step_of};
 ghost use Rattle.runtext.specs.Of.{Takes};
-ghost use Rattle.runtext.specs.Stepping.{step_form, stepped, changed, SmallNumber, Judged};
 
-use crate::form::{change_form, step_form};
-use crate::part::Part;
+use crate::bounds::STEPS;
+use crate::line::StepForm;
 use crate::sections::node_count;
 use crate::setup::Setup;
 use basics::node::NodeNumber;
 use basics::refusal::Refusal;
 use scripts_model::step::Step;
 
-// Which step a line has.
-#[derive(Clone, Copy, Drop)]
-pub(crate) enum StepForm {
-    Lock,
-    Release,
-    Read,
-    Write,
-    Adjust,
+// The node of a number below the count of nodes.
+fn node_in(count: u32, n: u32) -> Option<NodeNumber>
+    requires { count ≤ 64 }
+    ensures { result ≡ cond (nat_lt n count) (Some (node_number n)) None }
+{
+    // By `if`: `then_some` would cast the number before the test.
+    if n < count {
+        Some(NodeNumber(n as u8))
+    } else {
+        None
+    }
 }
 
-// A node, and its new value or the amount to add.
-#[derive(Clone, Copy, Drop)]
-pub(crate) struct Change {
-    node: NodeNumber,
-    number: i32,
+// The number, if it lies between the two bounds.
+fn bounded(number: i32, low: i32, high: i32) -> Option<i32>
+    ensures { result ≡ cond (int_le low number && int_le number high) (Some number) None }
+{
+    (low..=high).contains(&number).then_some(number)
+}
+
+// The step of a plan with this many nodes, with its number in bounds.
+fn step_of(form: StepForm, count: u32) -> Option<Step>
+    requires { count ≤ 64 }
+    ensures { result ≡ cond (good_step count (step_of form)) (Some (step_of form)) None }
+{
+    match form {
+        StepForm::Lock(n) => node_in(count, n).map(Step::Lock),
+        StepForm::Release(n) => node_in(count, n).map(Step::Release),
+        StepForm::Read(n) => node_in(count, n).map(Step::Read),
+        StepForm::Write(n, v) => {
+            Some(Step::Write(node_in(count, n)?, bounded(v, -32768, 32767)?))
+        }
+        StepForm::Adjust(n, d) => {
+            Some(Step::Adjust(node_in(count, n)?, bounded(d, -65535, 65535)?))
+        }
+    }
 }
 
 impl Setup {
-    // The node of a step that may stand here.
-    fn step_node(&self, line: Part, from: usize) -> Result<NodeNumber, Refusal>
-        requires { line.at + length line.bytes.now ≤ 16384 }
-        ensures { (ss : List AnyStep) (ts : List Transaction) → 1024 ≤ length ss → (f : Node → AnyStep) → ((n : Node) → good_step (length (nodes_of self.now.table.plan)) (f n) ≡ nat_lt n.0 (length (nodes_of self.now.table.plan))) → Judged self.now ss ts (step_line f (pieces_from line.entry.bytes.now from)) (stepped f result) }
+    pub(crate) fn step_line(&mut self, form: StepForm, steps: &mut [Step]) -> Result<(), Refusal>
+        requires { 1024 ≤ length steps.old }
+        ensures { (ts : List Transaction) → Takes self.old self.new steps.old steps.new ts ts (Some (step (step_of form))) result }
     {
-        let Some(node) = step_form(line, from) else {
-            return Err(Refusal::MalformedLine);
-        };
         if !self.takes_steps() {
             return Err(Refusal::MisplacedLine);
         }
-        if (self.steps >= 1024) | (node >= node_count(&self.table)) {
+        if self.steps >= STEPS {
             return Err(Refusal::LimitExceeded);
         }
-        Ok(NodeNumber(node as u8))
-    }
-
-    // The change that may stand here, with its number between the two bounds.
-    fn change(&self, line: Part, from: usize, low: i32, high: i32) -> Result<Change, Refusal>
-        requires { line.at + length line.bytes.now ≤ 16384 }
-        ensures small { SmallNumber result }
-        ensures judged { (ss : List AnyStep) (ts : List Transaction) → 1024 ≤ length ss → (f : Node → ℤ → AnyStep) → ((n : Node) (z : ℤ) → good_step (length (nodes_of self.now.table.plan)) (f n z) ≡ (nat_lt n.0 (length (nodes_of self.now.table.plan)) && (int_le low z && int_le z high))) → Judged self.now ss ts (change_line f (pieces_from line.entry.bytes.now from)) (changed f result) }
-    {
-        let Some(form) = change_form(line, from) else {
-            return Err(Refusal::MalformedLine);
-        };
-        if !self.takes_steps() {
-            return Err(Refusal::MisplacedLine);
-        }
-        if (self.steps >= 1024) | (form.node >= node_count(&self.table)) {
-            return Err(Refusal::LimitExceeded);
-        }
-        if (form.number < low) | (high < form.number) {
-            return Err(Refusal::LimitExceeded);
-        }
-        Ok(Change {
-            node: NodeNumber(form.node as u8),
-            number: form.number,
-        })
-    }
-
-    fn step_of(&self, form: StepForm, line: Part, from: usize) -> Result<Step, Refusal>
-        requires { line.at + length line.bytes.now ≤ 16384 }
-        ensures { (ss : List AnyStep) (ts : List Transaction) → 1024 ≤ length ss → Judged self.now ss ts (step_form form (pieces_from line.entry.bytes.now from)) result }
-    {
-        match form {
-            StepForm::Lock => match self.step_node(line, from) {
-                Ok(n) => Ok(Step::Lock(n)),
-                Err(cause) => Err(cause),
-            },
-            StepForm::Release => match self.step_node(line, from) {
-                Ok(n) => Ok(Step::Release(n)),
-                Err(cause) => Err(cause),
-            },
-            StepForm::Read => match self.step_node(line, from) {
-                Ok(n) => Ok(Step::Read(n)),
-                Err(cause) => Err(cause),
-            },
-            StepForm::Write => match self.change(line, from, -32768, 32767) {
-                Ok(change) => Ok(Step::Write(change.node, change.number)),
-                Err(cause) => Err(cause),
-            },
-            StepForm::Adjust => match self.change(line, from, -65535, 65535) {
-                Ok(change) => Ok(Step::Adjust(change.node, change.number)),
-                Err(cause) => Err(cause),
-            },
-        }
-    }
-
-    pub(crate) fn step_line(
-        &mut self,
-        form: StepForm,
-        line: Part,
-        from: usize,
-        steps: &mut [Step],
-    ) -> Option<Refusal>
-        requires place { line.at + length line.bytes.now ≤ 16384 }
-        requires room { 1024 ≤ length steps.old }
-        ensures { (ts : List Transaction) → Takes self.old self.new steps.old steps.new ts ts (step_form form (pieces_from line.entry.bytes.now from)) result }
-    {
-        match self.step_of(form, line, from) {
-            Ok(step) => {
-                steps[self.steps as usize] = step;
-                self.steps += 1;
-                None
-            }
-            Err(cause) => Some(cause),
-        }
+        let step = step_of(form, node_count(&self.table)).ok_or(Refusal::LimitExceeded)?;
+        steps[usize::from(self.steps)] = step;
+        self.steps += 1;
+        Ok(())
     }
 }

@@ -6,8 +6,6 @@ pub mod kind;
 ghost use Rattle.runtext_model.specs.Canonical.{Canonical};
 
 // Every description has one text, and no other text is read as it.
-pub fn format_canonical() -> u8
+pub fn format_canonical()
     ensures { Canonical }
-{
-    0
-}
+{}

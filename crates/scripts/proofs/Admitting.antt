@@ -1,5 +1,5 @@
 -- The start of a run: what may not run is refused, and what may is begun.
-use Rattle.std.proofs.Common.{◌≡◌, ℕ, ◌+◌, List, [], map, length, take, replicate, sym, ap, ◌∙◌, ap₂, arith, length-take-le}
+use Rattle.std.proofs.Common.{◌≡◌, ℕ, ◌+◌, List, [], map, length, replicate, ap, sym, ◌∙◌, ap₂}
 use lib.ListN.{replicate-append-replicate}
 use Rattle.rules.specs.Rule.{Rule}
 use Rattle.stores.specs.Store.{Store}
@@ -14,13 +14,13 @@ use Rattle.scripts_model.specs.Schedule.{first_run}
 use Rattle.scripts_model.specs.Script.{Script}
 use Rattle.scripts_model.proofs.Cursors.{by_cursors}
 use Rattle.scripts_model.proofs.Starts.{run_push}
-use Rattle.scripts.specs.declared.found.Found.{Found}
+use Rattle.scripts.specs.declared.cursors.Cursors.{Cursors}
 use Rattle.scripts.specs.Found.{Finds}
 use Rattle.scripts.proofs.Finding.{same_count}
 
 -- as many are found as there are
-pub count_is : (es : List Step) (f : Found) → Finds es f → f.count ≡ length (scripts_of es)
-count_is es f x = sym (length-take-le f.count f.cursors (omega (arith, x.few, x.long))) ∙ ap length x.first ∙ same_count es
+pub count_is : (es : List Step) (f : Cursors) → Finds es f → length f.places.items ≡ length (scripts_of es)
+count_is es f x = ap length x.first ∙ same_count es
 
 -- one more is begun
 pub begun_more : (first s s' : State) (i : ℕ) (a : Answer) → s ≡ (run (record { state = first; log = [] }) (replicate i begin)).state
@@ -31,8 +31,8 @@ begun_more first s s' i a e p q =
     ∙ ap (λ cs. (run (record { state = first; log = [] }) cs).state) (replicate-append-replicate i 1 begin)
 
 -- what is found and begun is the run before its first turn
-pub first_is : (rule : Rule) (store : Store) (es : List Step) (f : Found) (list : List ℕ) (s : State) → Finds es f → s ≡ (begun_session rule store f.count).state
-    → record { scripted = scripted_by es (record { session = s; cursors = take f.count f.cursors }); list = list; place = 0; turns = 0 } ≡ first_run rule store (scripts_of es) list
+pub first_is : (rule : Rule) (store : Store) (es : List Step) (f : Cursors) (list : List ℕ) (s : State) → Finds es f → s ≡ (begun_session rule store (length f.places.items)).state
+    → record { scripted = scripted_by es (record { session = s; cursors = f.places.items }); list = list; place = 0; turns = 0 } ≡ first_run rule store (scripts_of es) list
 first_is rule store es f list s x e =
     ap₂ (λ (s : State) (l : List Script). record { scripted = record { session = s; scripts = l }; list = list; place = 0; turns = 0 })
     (e ∙ ap (λ k. (begun_session rule store k).state) (count_is es f x))

@@ -1,4 +1,4 @@
 pub mod Searches
-pub mod Turning
 pub mod Finding
+pub mod Turning
 pub mod Admitting

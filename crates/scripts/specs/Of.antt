@@ -1,12 +1,12 @@
 -- What a script run, its turns and its totals mean.
-use Rattle.std.specs.Prelude.{ℕ, ◌+◌, cond, List, length, take, drop, Some, None, Ok, Err, Option, Result, nat_le, nat_lt}
+use Rattle.std.specs.Prelude.{ℕ, ◌+◌, cond, List, length, Some, None, Ok, Err, Option, Result, nat_le, nat_lt}
 use Rattle.basics.specs.declared.refusal.Refusal.{Refusal}
 use Rattle.basics.specs.declared.refusal.Refusal.TheVariants.{LimitExceeded}
 use Rattle.basics.specs.declared.transaction.TransactionNumber.{TransactionNumber}
 use Rattle.rules.specs.Rule.{Rule}
 use Rattle.stores.specs.Store.{Store}
 use Rattle.model.specs.Calls as calls
-use Rattle.session.specs.declared.answer.Answer.{Answer}
+use Rattle.session.specs.declared.answer.Reply.{Reply}
 use Rattle.session.specs.Of.{model_of, answer_of}
 use Rattle.scripts_model.specs.Script.{Script, Scripted, turn, turn_answer}
 use Rattle.scripts_model.specs.Schedule.{RunState, whose, all_finished}
@@ -19,19 +19,19 @@ use Rattle.scripts.specs.declared.state.ScriptRun.{ScriptRun}
 -- the session and the scripts of a run
 abbrev pub scripted_of : {R S : Type 0} → (R → Rule) → (S → Store) → ScriptRun R S → Scripted
 scripted_of rule store r =
-    scripted_by r.steps.now (record { session = model_of rule store r.session; cursors = take r.count r.cursors })
+    scripted_by r.steps.now (record { session = model_of rule store r.session; cursors = r.cursors.places.items })
 
 -- the run that the fields stand for
 abbrev pub run_of : {R S : Type 0} → (R → Rule) → (S → Store) → ScriptRun R S → RunState
 run_of rule store r = record {
   scripted = scripted_of rule store r;
-  list = numbers (drop r.used r.turns.now);
+  list = numbers r.turns.now;
   place = r.place;
   turns = r.taken;
 }
 
 -- an answer in the model's words, where there is one
-abbrev pub answer_or_none : Option Answer → Option calls.Answer
+abbrev pub answer_or_none : Option (Result Reply Refusal) → Option calls.Answer
 answer_or_none None = None
 answer_or_none (Some a) = Some (answer_of a)
 
@@ -63,7 +63,7 @@ abbrev pub turn_refusal : Scripted → ℕ → Option Refusal
 turn_refusal d t = cond (nat_le (length d.scripts) t) (Some LimitExceeded) None
 
 -- what a turn by itself answers, in the model's words
-abbrev pub result_of : Result (Option Answer) Refusal → Result (Option calls.Answer) Refusal
+abbrev pub result_of : Result (Option (Result Reply Refusal)) Refusal → Result (Option calls.Answer) Refusal
 result_of (Ok a) = Ok (answer_or_none a)
 result_of (Err e) = Err e
 

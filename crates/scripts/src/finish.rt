@@ -4,7 +4,6 @@ ghost use Rattle.scripts_model.specs.Schedule.{played};
 ghost use Rattle.scripts.specs.Of.{run_of, totals_of};
 
 use crate::report::Totals;
-use crate::rounds::totals_at;
 use crate::state::ScriptRun;
 use rules::rule::LockRule;
 use session::state::Session;
@@ -15,7 +14,10 @@ impl<'s, R: LockRule, S: NodeStore> ScriptRun<'s, R, S> {
     pub fn totals(&self) -> Totals
         ensures { result ≡ totals_of (run_of R.rule S.store self.now) }
     {
-        totals_at(self.taken, &self.cursors, self.count)
+        Totals {
+            turns: self.taken,
+            all_done: self.cursors.all_done(),
+        }
     }
 
     // Takes turns until the run stops.
@@ -24,25 +26,15 @@ impl<'s, R: LockRule, S: NodeStore> ScriptRun<'s, R, S> {
         ensures leaves { run_of R.rule S.store self.new ≡ played (self.old.allowance - self.old.taken) (run_of R.rule S.store self.old) }
         ensures keeps { self.new.allowance ≡ self.old.allowance }
     {
-        while let Some(_) = self.advance() {}
-        totals_at(self.taken, &self.cursors, self.count)
+        while self.advance().is_some() {}
+        self.totals()
     }
 
     // The session, as the turns have left it.
     pub fn into_session(self) -> Session<R, S>
         ensures { result ≡ self.entry.session }
     {
-        let ScriptRun {
-            session,
-            steps: _,
-            turns: _,
-            cursors: _,
-            count: _,
-            used: _,
-            place: _,
-            taken: _,
-            allowance: _,
-        } = self;
+        let ScriptRun { session, .. } = self;
         session
     }
 }

@@ -1,9 +1,9 @@
 // A run of scripts over a session that it owns: turns by a list, then by rounds, until all scripts are done.
 #![tactic(auto)]
 
+mod cursors;
 mod find;
 pub mod finish;
-mod found;
 pub mod report;
 mod rounds;
 pub mod start;

@@ -8,21 +8,19 @@ ghost use Rattle.scripts_model.specs.Started.{Started};
 ghost use Rattle.scripts.specs.Found.{Finds};
 ghost use Rattle.scripts.specs.Of.{run_of};
 
-use crate::find::{all_below, before_first, find};
-use crate::found::Found;
+use crate::cursors::Cursors;
+use crate::find::{before_first, find};
 use crate::state::ScriptRun;
+use basics::list::all_below;
 use basics::refusal::Refusal;
 use basics::transaction::TransactionNumber;
 use rules::rule::LockRule;
+use scripts_model::limits::{MOST_LISTED, MOST_STEPS};
 use scripts_model::step::Step;
 use session::state::Session;
 use stores::store::NodeStore;
 
 const MOST_TURNS: u32 = 40_000;
-
-const MOST_STEPS: usize = 1_024;
-
-const MOST_LISTED: usize = 4_096;
 
 // Why a run did not start, and what it would have owned, as it was given.
 #[derive(Drop)]
@@ -32,8 +30,9 @@ pub struct NotStarted<R, S> {
     pub store: S,
 }
 
-// Where the scripts begin, or why they may not run.
-fn admit(steps: &[Step], turns: &[TransactionNumber], allowance: u32) -> Result<Found, Refusal>
+// Where the scripts begin, or why they may not run. The steps, the turns and the allowance are three things to the caller of
+// a run; a struct of them would be taken apart again at once.
+fn admit(steps: &[Step], turns: &[TransactionNumber], allowance: u32) -> Result<Cursors, Refusal>
     ensures { elim result [
       | Ok found ↦ (start_refusal allowance (scripts_of steps.now) (numbers turns.now) ≡ None) × Finds steps.now found
       | Err refusal ↦ start_refusal allowance (scripts_of steps.now) (numbers turns.now) ≡ Some refusal
@@ -42,16 +41,11 @@ fn admit(steps: &[Step], turns: &[TransactionNumber], allowance: u32) -> Result<
     if allowance > MOST_TURNS {
         return Err(Refusal::AllowanceTooLarge);
     }
-    let Some(found) = find(steps) else {
-        return Err(Refusal::LimitExceeded);
-    };
-    if steps.len() - before_first(steps) > MOST_STEPS {
-        return Err(Refusal::LimitExceeded);
-    }
-    if turns.len() > MOST_LISTED {
-        return Err(Refusal::LimitExceeded);
-    }
-    if !all_below(turns, found.count) {
+    let found = find(steps).ok_or(Refusal::LimitExceeded)?;
+    if steps.len() - before_first(steps) > MOST_STEPS
+        || turns.len() > MOST_LISTED
+        || !all_below(turns, found.count())
+    {
         return Err(Refusal::LimitExceeded);
     }
     Ok(found)
@@ -62,7 +56,7 @@ fn with_begun<R: LockRule, S: NodeStore>(rule: R, store: S, count: u8) -> Sessio
     ensures { model_of R.rule S.store result ≡ (begun_session (R.rule rule) (S.store store) count).state }
 {
     let mut session = Session::new(rule, store);
-    for i in 0..count {
+    for _ in 0..count {
         let _ = session.begin();
     }
     session
@@ -87,26 +81,22 @@ impl<'s, R: LockRule, S: NodeStore> ScriptRun<'s, R, S> {
               × (e.rule ≡ rule) × (e.store ≡ store)
         ] }
     {
+        // By `match`: a closure for `map_err` would take the rule and the store with it.
         match admit(steps, turns, allowance) {
             Err(refusal) => Err(NotStarted {
                 refusal,
                 rule,
                 store,
             }),
-            Ok(found) => {
-                let cursors = found.cursors;
-                Ok(ScriptRun {
-                    session: with_begun(rule, store, found.count),
-                    steps,
-                    turns,
-                    cursors,
-                    count: found.count,
-                    used: 0,
-                    place: 0,
-                    taken: 0,
-                    allowance,
-                })
-            }
+            Ok(cursors) => Ok(ScriptRun {
+                session: with_begun(rule, store, cursors.count()),
+                steps,
+                turns,
+                cursors,
+                place: 0,
+                taken: 0,
+                allowance,
+            }),
         }
     }
 }

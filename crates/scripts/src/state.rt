@@ -1,7 +1,5 @@
-ghost use Rattle.std.specs.Prelude.{◌≡◌, ◌≤◌, length};
-
+use crate::cursors::Cursors;
 use basics::transaction::TransactionNumber;
-use scripts_model::cursor::Cursor;
 use scripts_model::step::Step;
 use session::state::Session;
 
@@ -10,15 +8,12 @@ use session::state::Session;
 pub struct ScriptRun<'s, R, S> {
     pub(crate) session: Session<R, S>,
     pub(crate) steps: &'s [Step],
+    // What is left of the turn list.
     pub(crate) turns: &'s [TransactionNumber],
-    // One for each script, and after them whatever.
-    pub(crate) cursors: [Cursor; 32],
-    pub(crate) count: u8,
-    // How many turns of the list are used, and where the round goes on.
-    pub(crate) used: usize,
+    pub(crate) cursors: Cursors,
+    // Where the round goes on.
     pub(crate) place: u8,
     pub(crate) taken: u32,
+    // Each contract says that it stays: the model's run, which they speak of, has no allowance.
     pub(crate) allowance: u32,
-    ghost few: { count ≤ 32 },
-    ghost long: { length cursors ≡ 32 },
 }

@@ -1,5 +1,5 @@
 // One step of a script.
-ghost use Rattle.std.specs.Prelude.{◌≡◌, ◌<◌, ◌⊎◌, length};
+ghost use Rattle.std.specs.Prelude.{◌≡◌, ◌-◌, ◌^◌, ◌<◌, ◌⊎◌, length};
 ghost use Rattle.model.specs.Checks.{answer};
 ghost use Rattle.model.specs.Step.{after};
 ghost use Rattle.session.specs.Of.{model_of, answer_of};
@@ -8,9 +8,8 @@ ghost use Rattle.scripts_model.specs.Buffer.{action_of, call_by, step_at, cursor
 
 use basics::transaction::TransactionNumber;
 use rules::rule::LockRule;
-use scripts_model::cursor::Cursor;
 use scripts_model::step::Step;
-use session::answer::Answer;
+use session::answer::{Answer, Reply};
 use session::state::Session;
 use stores::store::NodeStore;
 
@@ -19,11 +18,7 @@ pub(crate) fn step_at(steps: &[Step], at: usize) -> Step
     ensures is { result ≡ step_at steps.now at }
     ensures inside { (at < length steps.now) ⊎ (result ≡ End) }
 {
-    if at < steps.len() {
-        steps[at]
-    } else {
-        Step::End
-    }
+    steps.get(at).copied().unwrap_or(Step::End)
 }
 
 // Does a step, as a call by t.
@@ -46,13 +41,13 @@ pub(crate) fn perform<R: LockRule, S: NodeStore>(
 }
 
 // Where the script is after its step was answered: a step that waits is tried again, and behind its end it is done.
-pub(crate) fn moved(step: Step, at: usize, answer: Answer) -> Cursor
-    requires { (at < 18446744073709551615) ⊎ (step ≡ End) }
+pub(crate) fn moved(step: Step, at: usize, answer: Answer) -> Option<usize>
+    requires { (at < 2 ^ 64 - 1) ⊎ (step ≡ End) }
     ensures { result ≡ cursor_answered (action_of step) at (answer_of answer) }
 {
     match (answer, step) {
-        (Answer::Waiting(_), _) => Cursor::At(at),
-        (_, Step::End) => Cursor::Done,
-        _ => Cursor::At(at + 1),
+        (Ok(Reply::Waiting(_)), _) => Some(at),
+        (_, Step::End) => None,
+        _ => Some(at + 1),
     }
 }

@@ -1,18 +1,16 @@
 // The turns of a run.
-ghost use Rattle.std.specs.Prelude.{◌≡◌, ◌-◌, ◌<◌, Some, OnSome};
+ghost use Rattle.std.specs.Prelude.{◌≡◌, ◌-◌, ◌^◌, ◌<◌, Some, OnSome};
 ghost use Rattle.basics.specs.Refusals.{answer_unless, leave_unless};
 ghost use Rattle.scripts_model.specs.Script.{turn_answer};
 ghost use Rattle.scripts_model.specs.Schedule.{by_turn, turned_alone};
 ghost use Rattle.scripts.specs.Of.{scripted_of, run_of, answer_or_none, scheduled, told, turn_of, turn_counted, turn_refusal, result_of};
 
 use crate::report::Turn;
-use crate::rounds::in_round;
 use crate::state::ScriptRun;
 use crate::steps::{moved, perform, step_at};
 use basics::refusal::Refusal;
 use basics::transaction::TransactionNumber;
 use rules::rule::LockRule;
-use scripts_model::cursor::Cursor;
 use session::answer::Answer;
 use stores::store::NodeStore;
 
@@ -23,20 +21,11 @@ impl<'s, R: LockRule, S: NodeStore> ScriptRun<'s, R, S> {
         ensures leaves { run_of R.rule S.store self.new ≡ turned_alone (run_of R.rule S.store self.old) t.0 }
         ensures keeps { self.new.allowance ≡ self.old.allowance }
     {
-        if t.0 >= self.count {
-            return None;
-        }
-        let i = t.0 as usize;
-        let cursor = self.cursors[i];
-        match cursor {
-            Cursor::Done => None,
-            Cursor::At(at) => {
-                let step = step_at(self.steps, at);
-                let answer = perform(&mut self.session, t, step);
-                self.cursors[i] = moved(step, at, answer);
-                Some(answer)
-            }
-        }
+        let at = self.cursors.place(t)?;
+        let step = step_at(self.steps, at);
+        let answer = perform(&mut self.session, t, step);
+        self.cursors.set_place(t, moved(step, at, answer));
+        Some(answer)
     }
 
     // A turn of script t by itself, apart from the list, the rounds and the count.
@@ -45,7 +34,7 @@ impl<'s, R: LockRule, S: NodeStore> ScriptRun<'s, R, S> {
         ensures leaves { run_of R.rule S.store self.new ≡ leave_unless (turn_refusal (scripted_of R.rule S.store self.old) script.0) (run_of R.rule S.store self.old) (turned_alone (run_of R.rule S.store self.old) script.0) }
         ensures keeps { self.new.allowance ≡ self.old.allowance }
     {
-        if script.0 >= self.count {
+        if script.0 >= self.cursors.count() {
             return Err(Refusal::LimitExceeded);
         }
         Ok(self.step(script))
@@ -53,7 +42,7 @@ impl<'s, R: LockRule, S: NodeStore> ScriptRun<'s, R, S> {
 
     // A turn that counts.
     fn take(&mut self, script: TransactionNumber) -> Turn
-        requires { self.old.taken < 4294967295 }
+        requires { self.old.taken < 2 ^ 32 - 1 }
         ensures turns { turn_of (Some result) ≡ told (scripted_of R.rule S.store self.old) (Some script.0) }
         ensures leaves { run_of R.rule S.store self.new ≡ turn_counted (run_of R.rule S.store self.old) script.0 }
         ensures keeps { self.new.allowance ≡ self.old.allowance }
@@ -74,17 +63,12 @@ impl<'s, R: LockRule, S: NodeStore> ScriptRun<'s, R, S> {
         if self.taken >= self.allowance {
             return None;
         }
-        if self.used < self.turns.len() {
-            let script = self.turns[self.used];
-            self.used += 1;
+        if let Some((&script, rest)) = self.turns.split_first() {
+            self.turns = rest;
             return Some(self.take(script));
         }
-        match in_round(&self.cursors, self.count, self.place) {
-            None => None,
-            Some(script) => {
-                self.place = script.0 + 1;
-                Some(self.take(script))
-            }
-        }
+        let script = self.cursors.in_round(self.place)?;
+        self.place = script.0 + 1;
+        Some(self.take(script))
     }
 }

@@ -18,12 +18,12 @@ use stores::store::NodeStore;
 
 // What a run has come to.
 #[derive(Drop)]
-pub struct Outcome<R: LockRule, S: NodeStore> {
+pub struct Outcome<R, S> {
     pub session: Session<R, S>,
     pub totals: Totals,
 }
 
-// Starts a run and plays it.
+// Starts a run and plays it. Its parameters are those of `start`.
 pub fn run_scripts<'s, R: LockRule, S: NodeStore>(
     rule: R,
     store: S,
@@ -40,15 +40,10 @@ pub fn run_scripts<'s, R: LockRule, S: NodeStore>(
           × (e.rule ≡ rule) × (e.store ≡ store)
     ] }
 {
-    match ScriptRun::start(rule, store, steps, turns, allowance) {
-        Err(e) => Err(e),
-        Ok(run) => {
-            let mut run = run;
-            let totals = run.play();
-            Ok(Outcome {
-                session: run.into_session(),
-                totals,
-            })
-        }
-    }
+    let mut run = ScriptRun::start(rule, store, steps, turns, allowance)?;
+    let totals = run.play();
+    Ok(Outcome {
+        session: run.into_session(),
+        totals,
+    })
 }

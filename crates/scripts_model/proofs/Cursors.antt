@@ -1,17 +1,13 @@
 -- Runs by cursors are runs of the scripts.
-use Rattle.std.proofs.Common.{◌≡◌, ℕ, zero, suc, ◌+◌, ◌<◌, ◌≤◌, not, List, [], ◌∷◌, map, length, get_or, take, drop, set, Some, None, Option, sym, refl, ap, ◌∙◌, ap₂, add-one, arith, length-take, get_or-take}
-use lib.ListN.{length-map, get_or-map}
+use Rattle.std.proofs.Common.{◌≡◌, ℕ, zero, suc, ◌+◌, List, [], ◌∷◌, map, length, get_or, drop, set, Some, None, Option, sym, refl, ap, ◌∙◌, ap₂, add-one, arith}
+use lib.ListN.{get_or-map}
 use lib.Seq.{map-set}
-use Rattle.std.proofs.lemmas.List.{get_or_past}
 use Rattle.model.specs.State.{State}
 use Rattle.model.specs.Calls.{Call, Answer, done, waiting, refused}
 use Rattle.model.specs.Checks.{answer}
 use Rattle.model.specs.Step.{after}
 use Rattle.scripts_model.specs.declared.step.Step.{Step}
-use Rattle.scripts_model.specs.declared.cursor.Cursor.{Cursor}
-use Rattle.scripts_model.specs.declared.cursor.Cursor.TheVariants.{At, Done}
 use Rattle.scripts_model.specs.Script.{Action, Script, going, next_call, moved, answered, Scripted, script, turn_by, turn, answer_by, turn_answer}
-use Rattle.scripts_model.specs.Schedule.{is_finished, unfinished}
 use Rattle.scripts_model.specs.Finishes.{steps_of}
 use Rattle.scripts_model.specs.Buffer.{action_of, then_actions, up_to_end, begins, scripts_of, begins_at, cursors_from, script_at, call_by, step_at, cursor_moved, cursor_answered, Cursors, cursor_turn_by, cursor_turn, scripted_by, ByCursors}
 
@@ -49,10 +45,10 @@ module _ (es : List Step) where
     scripts = set (map (script_at es) d.cursors) t (answered (up_to_end (drop i es)) (answer d.session c));
   }
 
-  turn_at : (d : Cursors) (t : ℕ) (x : Cursor) → scripted_by es (cursor_turn_by es d t x) ≡ turn_by (scripted_by es d) t (script_at es x)
+  turn_at : (d : Cursors) (t : ℕ) (x : Option ℕ) → scripted_by es (cursor_turn_by es d t x) ≡ turn_by (scripted_by es d) t (script_at es x)
   unfolding with_call
-  turn_at d t Done = refl
-  turn_at d t (At i) =
+  turn_at d t None = refl
+  turn_at d t (Some i) =
       let c = call_by t (action_of (step_at es i)) in
       let a = answer d.session c in
       ap (λ (l : List Script). record { session = after d.session c a; scripts = l })
@@ -61,8 +57,8 @@ module _ (es : List Step) where
 
   pub turn_is : (d : Cursors) (t : ℕ) → scripted_by es (cursor_turn es d t) ≡ turn (scripted_by es d) t
   turn_is d t =
-      turn_at d t (get_or d.cursors t Done)
-      ∙ ap (turn_by (scripted_by es d) t) (sym (get_or-map (script_at es) d.cursors t Done))
+      turn_at d t (get_or d.cursors t None)
+      ∙ ap (turn_by (scripted_by es d) t) (sym (get_or-map (script_at es) d.cursors t None))
 
 drop_tail : (l : List Step) (i : ℕ) (e : Step) (es : List Step) → drop i l ≡ e ∷ es → drop (suc i) l ≡ es
 drop_tail [] zero e es q = let z : ◌≡◌ {A = ℕ} 0 1 = cc in absurd (omega arith)
@@ -95,74 +91,36 @@ all_counted (e ∷ es) = counted_by (action_of e) (up_to_end es) (scripts_of es)
 pub by_cursors : ByCursors
 by_cursors = (turn_is, λ es. cursors_first es es 0 refl, all_counted)
 
--- for a program that keeps cursors: a turn of one that is done, and of one that is at a place
-module _ (es : List Step) (d : Cursors) (t : ℕ) where
-  script_is : (x : Cursor) → get_or d.cursors t Done ≡ x → script (scripted_by es d) t ≡ script_at es x
-  script_is x q = get_or-map (script_at es) d.cursors t Done ∙ ap (script_at es) q
+-- for a program that keeps cursors: a turn of one that is at a place
+module _ (es : List Step) (s : State) (l : List (Option ℕ)) (t : ℕ) where
+  abbrev kept : Cursors
+  kept = record { session = s; cursors = l }
 
-  pub no_turn : get_or d.cursors t Done ≡ Done → (None ≡ turn_answer (scripted_by es d) t) × (scripted_by es d ≡ turn (scripted_by es d) t)
-  no_turn q =
-      let e = script_is Done q in
-      (sym (ap (answer_by (scripted_by es d) t) e), sym (ap (turn_by (scripted_by es d) t) e))
+  script_is : (x : Option ℕ) → get_or l t None ≡ x → script (scripted_by es kept) t ≡ script_at es x
+  script_is x q = get_or-map (script_at es) l t None ∙ ap (script_at es) q
 
   -- the cursors after a turn that was answered so
-  abbrev pub with_answer : ℕ → Answer → Cursors
+  abbrev with_answer : ℕ → Answer → Cursors
   with_answer i a = record {
-    session = after d.session (call_by t (action_of (step_at es i))) a;
-    cursors = set d.cursors t (cursor_answered (action_of (step_at es i)) i a);
+    session = after s (call_by t (action_of (step_at es i))) a;
+    cursors = set l t (cursor_answered (action_of (step_at es i)) i a);
   }
 
-  pub one_turn : (i : ℕ) (a : Answer) → get_or d.cursors t Done ≡ At i → a ≡ answer d.session (call_by t (action_of (step_at es i)))
-      → (Some a ≡ turn_answer (scripted_by es d) t) × (scripted_by es (with_answer i a) ≡ turn (scripted_by es d) t)
-  one_turn i a q z = (
-    ap Some (z ∙ ap (answer d.session) (sym (call_at es t i))) ∙ sym (ap (answer_by (scripted_by es d) t) (script_is (At i) q)),
-    ap (λ a. scripted_by es (with_answer i a)) z ∙ ap (λ x. scripted_by es (cursor_turn_by es d t x)) (sym q) ∙ turn_is es d t,
+  turn_of : (i : ℕ) (a : Answer) → get_or l t None ≡ Some i → a ≡ answer s (call_by t (action_of (step_at es i)))
+      → (Some a ≡ turn_answer (scripted_by es kept) t) × (scripted_by es (with_answer i a) ≡ turn (scripted_by es kept) t)
+  turn_of i a q z = (
+    ap Some (z ∙ ap (answer s) (sym (call_at es t i))) ∙ sym (ap (answer_by (scripted_by es kept) t) (script_is (Some i) q)),
+    ap (λ a. scripted_by es (with_answer i a)) z ∙ ap (λ x. scripted_by es (cursor_turn_by es kept t x)) (sym q) ∙ turn_is es kept t,
   )
 
-pub take_put : (k : ℕ) (l : List Cursor) (t : ℕ) (x : Cursor) → t < k → take k (set l t x) ≡ set (take k l) t x
-take_put zero l t x h = absurd (omega arith)
-take_put (suc k) [] t x h = refl
-take_put (suc k) (y ∷ l) zero x h = refl
-take_put (suc k) (y ∷ l) (suc t) x h = ap (λ r. y ∷ r) (take_put k l t x (omega arith))
-
-default_free : (l : List Cursor) (t : ℕ) (x y : Cursor) → t < length l → get_or l t x ≡ get_or l t y
-default_free [] t x y h = absurd (omega arith)
-default_free (z ∷ l) zero x y h = refl
-default_free (z ∷ l) (suc t) x y h = default_free l t x y (omega arith)
-
--- the same for the first k elements l of a program's array
-module _ (es : List Step) (s : State) (l : List Cursor) (k t : ℕ) where
-  abbrev kept : Cursors
-  kept = record { session = s; cursors = take k l }
-
-  -- beyond the scripts
-  pub array_past : k ≤ t → (None ≡ turn_answer (scripted_by es kept) t) × (scripted_by es kept ≡ turn (scripted_by es kept) t)
-  array_past h = no_turn es kept t (get_or_past (take k l) t Done (omega (arith, length-take k l)))
-
-  module _ (h : t < k) (inside : t < length l) where
-    reads : (x : Cursor) → get_or l t (At 0) ≡ x → get_or (take k l) t Done ≡ x
-    reads x q = get_or-take k l t Done h ∙ default_free l t Done (At 0) inside ∙ q
-
-    pub array_done : get_or l t (At 0) ≡ Done → (None ≡ turn_answer (scripted_by es kept) t) × (scripted_by es kept ≡ turn (scripted_by es kept) t)
-    array_done q = no_turn es kept t (reads Done q)
-
-    pub array_turn : (s' : State) (i : ℕ) (e : Step) (a : Answer) (x : Cursor) → get_or l t (At 0) ≡ At i → e ≡ step_at es i
-        → a ≡ answer s (call_by t (action_of e)) → s' ≡ after s (call_by t (action_of e)) a → x ≡ cursor_answered (action_of e) i a
-        → (Some a ≡ turn_answer (scripted_by es kept) t) × (scripted_by es (record { session = s'; cursors = take k (set l t x) }) ≡ turn (scripted_by es kept) t)
-    array_turn s' i e a x q w z y v =
-        let (b, c) = one_turn es kept t i a (reads (At i) q) (z ∙ ap (λ e. answer s (call_by t (action_of e))) w) in (
-          b,
-          ap₂ (λ (s : State) (l : List Cursor). scripted_by es (record { session = s; cursors = l }))
-              (y ∙ ap (λ e. after s (call_by t (action_of e)) a) w)
-              (take_put k l t x h ∙ ap (set (take k l) t) (v ∙ ap (λ e. cursor_answered (action_of e) i a) w))
-              ∙ c,
-        )
-
--- whether script t is finished, from the array
-pub array_unfinished : (es : List Step) (l : List Cursor) (k t : ℕ) (x : Cursor) → t < k → t < length l → get_or l t (At 0) ≡ x
-    → unfinished (map (script_at es) (take k l)) t ≡ not (is_finished (script_at es x))
-array_unfinished es l k t x h inside q =
-    ap (λ y. not (is_finished y)) (get_or-map (script_at es) (take k l) t Done ∙ ap (script_at es) (get_or-take k l t Done h ∙ default_free l t Done (At 0) inside ∙ q))
-
-pub array_length : (es : List Step) (l : List Cursor) (k : ℕ) → k ≤ length l → length (map (script_at es) (take k l)) ≡ k
-array_length es l k h = length-map (take k l) (script_at es) ∙ omega (arith, length-take k l)
+  pub one_turn : (s' : State) (i : ℕ) (e : Step) (a : Answer) (x : Option ℕ) → get_or l t None ≡ Some i → e ≡ step_at es i
+      → a ≡ answer s (call_by t (action_of e)) → s' ≡ after s (call_by t (action_of e)) a → x ≡ cursor_answered (action_of e) i a
+      → (Some a ≡ turn_answer (scripted_by es kept) t) × (scripted_by es (record { session = s'; cursors = set l t x }) ≡ turn (scripted_by es kept) t)
+  one_turn s' i e a x q w z y v =
+      let (b, c) = turn_of i a q (z ∙ ap (λ e. answer s (call_by t (action_of e))) w) in (
+        b,
+        ap₂ (λ (s : State) (l : List (Option ℕ)). scripted_by es (record { session = s; cursors = l }))
+            (y ∙ ap (λ e. after s (call_by t (action_of e)) a) w)
+            (ap (set l t) (v ∙ ap (λ e. cursor_answered (action_of e) i a) w))
+            ∙ c,
+      )

@@ -1,6 +1,6 @@
 -- Lists of scripts: what is left of them, and whose turn it is.
-use Rattle.std.proofs.Common.{◌≡◌, ℕ, zero, suc, ◌+◌, ◌<◌, ◌≤◌, Bool, true, false, ◌&&◌, leb, ◌⊎◌, List, [], ◌∷◌, map, length, get_or, set, Some, None, sym, refl, ap, ◌∙◌, inl, inr, arith}
-use Rattle.std.proofs.lemmas.Bool.{true≢false, cases_eq, cases_Bool, and_parts, and_cases, and_from, and_left, and_right, not-false, not-true, le-leb, leb-true, both_ways}
+use Rattle.std.proofs.Common.{◌≡◌, ℕ, zero, suc, ◌+◌, ◌<◌, ◌≤◌, Bool, true, false, ◌&&◌, leb, ◌⊎◌, List, [], ◌∷◌, map, length, get_or, set, Some, None, refl, ap, ◌∙◌, inl, inr, arith}
+use Rattle.std.proofs.lemmas.Bool.{true≢false, cases_eq, cases_Bool, and_parts, and_cases, and_from, not-false, le-leb, leb-true, both_ways}
 use Rattle.model.specs.Calls.{or_else}
 use Rattle.model.specs.Order.{lowest}
 use Rattle.scripts_model.specs.Script.{Action, Script, going, finished}
@@ -81,22 +81,3 @@ place_of l place = elim (lowest_is (λ t. leb place t && unfinished l t) (length
       | inl a ↦ absurd (both_ways (leb p u) a (le-leb p u g))
       | inr a ↦ a
     ]
-
-all_finished_at : (l : List Script) (t : ℕ) → t < length l → unfinished l t ≡ true → false ≡ all_finished l
-all_finished_at [] t h e = absurd (omega arith)
-all_finished_at (x ∷ l) zero h e = sym (and_left (is_finished x) (all_finished l) (not-true (is_finished x) e))
-all_finished_at (x ∷ l) (suc t) h e = sym (and_right (is_finished x) (all_finished l) (sym (all_finished_at l t (omega arith) e)))
-
--- all are done where the search from the first on finds none
-pub some_unfinished : (l : List Script) (t : ℕ) → Some t ≡ from_on l 0 → false ≡ all_finished l
-some_unfinished l t e = elim (lowest_is (λ t. leb 0 t && unfinished l t) (length l)) [
-  | inl (u, d, h, p, f) ↦ all_finished_at l u h (and_parts (leb 0 u) (unfinished l u) p).1
-  | inr (d, f) ↦ let z : ◌≡◌ {A = ℕ} 0 1 = cc (e, d) in absurd (omega arith)
-]
-
-pub none_unfinished : (l : List Script) → None ≡ from_on l 0 → true ≡ all_finished l
-none_unfinished l e = elim (place_of l 0) [
-  | nobody q all ↦ sym (all_are_finished l all)
-  | onwards t q h some from between ↦ let z : ◌≡◌ {A = ℕ} 0 1 = cc (ap (λ o. or_else o (from_on l 0)) e, e, q) in absurd (omega arith)
-  | again t q h some below above ↦ let z : ◌≡◌ {A = ℕ} 0 1 = cc (ap (λ o. or_else o (from_on l 0)) e, e, q) in absurd (omega arith)
-]

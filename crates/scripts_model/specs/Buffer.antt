@@ -6,8 +6,6 @@ use Rattle.model.specs.Checks.{answer}
 use Rattle.model.specs.Step.{after}
 use Rattle.scripts_model.specs.declared.step.Step.{Step}
 use Rattle.scripts_model.specs.declared.step.Step.TheVariants.{End, Lock, Release, Read, Write, Adjust}
-use Rattle.scripts_model.specs.declared.cursor.Cursor.{Cursor}
-use Rattle.scripts_model.specs.declared.cursor.Cursor.TheVariants.{At, Done}
 use Rattle.scripts_model.specs.Script.{Action, locks, releases, does, Script, going, finished, call_of, Scripted, turn}
 use Rattle.scripts_model.specs.Finishes.{steps_of}
 
@@ -40,20 +38,21 @@ abbrev pub scripts_of : List Step → List (List Action)
 scripts_of [] = []
 scripts_of (e ∷ es) = begins (action_of e) (up_to_end es) (scripts_of es)
 
--- an end puts a cursor at the place i behind it
-abbrev pub begins_at : Option Action → ℕ → List Cursor → List Cursor
-begins_at None i cursors = At i ∷ cursors
+-- A cursor says how far a script is: Some i, at the place i of the step buffer, or None, done. An end puts one at the place i
+-- behind it.
+abbrev pub begins_at : Option Action → ℕ → List (Option ℕ) → List (Option ℕ)
+begins_at None i cursors = Some i ∷ cursors
 begins_at (Some x) i cursors = cursors
 
 -- a cursor at the first action of each script, in a buffer whose first entry has the number i
-abbrev pub cursors_from : ℕ → List Step → List Cursor
+abbrev pub cursors_from : ℕ → List Step → List (Option ℕ)
 cursors_from i [] = []
 cursors_from i (e ∷ es) = begins_at (action_of e) (i + 1) (cursors_from (i + 1) es)
 
 -- the script that a cursor stands for
-abbrev pub script_at : List Step → Cursor → Script
-script_at es (At i) = going (up_to_end (drop i es))
-script_at es Done = finished
+abbrev pub script_at : List Step → Option ℕ → Script
+script_at es (Some i) = going (up_to_end (drop i es))
+script_at es None = finished
 
 -- the entry at a place; past the last one a script ends too
 abbrev pub step_at : List Step → ℕ → Step
@@ -64,33 +63,33 @@ abbrev pub call_by : ℕ → Option Action → Call
 call_by t None = end t
 call_by t (Some x) = call_of t x
 
--- the cursor behind an entry at the place i; behind an end it is done
-abbrev pub cursor_moved : Option Action → ℕ → Cursor
-cursor_moved None i = Done
-cursor_moved (Some x) i = At (i + 1)
+-- the cursor behind an entry at the place i; behind an end the script is done
+abbrev pub cursor_moved : Option Action → ℕ → Option ℕ
+cursor_moved None i = None
+cursor_moved (Some x) i = Some (i + 1)
 
 -- the cursor after the call of that entry was answered so
-abbrev pub cursor_answered : Option Action → ℕ → Answer → Cursor
+abbrev pub cursor_answered : Option Action → ℕ → Answer → Option ℕ
 cursor_answered x i (done v) = cursor_moved x i
-cursor_answered x i (waiting u) = At i
+cursor_answered x i (waiting u) = Some i
 cursor_answered x i (refused k) = cursor_moved x i
 
 -- a session, and a cursor for each script
 pub record Cursors : Type 0 where
   pub session : State
-  pub cursors : List Cursor
+  pub cursors : List (Option ℕ)
 
 -- a turn of script t, whose cursor is this
-abbrev pub cursor_turn_by : List Step → Cursors → ℕ → Cursor → Cursors
-cursor_turn_by es d t Done = d
-cursor_turn_by es d t (At i) =
+abbrev pub cursor_turn_by : List Step → Cursors → ℕ → Option ℕ → Cursors
+cursor_turn_by es d t None = d
+cursor_turn_by es d t (Some i) =
     let x = action_of (step_at es i) in
     let a = answer d.session (call_by t x) in
     record { session = after d.session (call_by t x) a; cursors = slice_set d.cursors t (cursor_answered x i a) }
 
 -- a turn by cursors looks at the entry at the cursor, and at no other
 abbrev pub cursor_turn : List Step → Cursors → ℕ → Cursors
-cursor_turn es d t = cursor_turn_by es d t (slice_index_or d.cursors t Done)
+cursor_turn es d t = cursor_turn_by es d t (slice_index_or d.cursors t None)
 
 -- the scripts that these cursors stand for
 abbrev pub scripted_by : List Step → Cursors → Scripted

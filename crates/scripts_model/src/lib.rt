@@ -1,8 +1,8 @@
 // What a run of scripts means, and what holds of every run. The functions below carry the theorems: their contracts are
-// what is proved, and their results mean nothing.
+// what is proved.
 #![tactic(auto)]
 
-pub mod cursor;
+pub mod limits;
 pub mod step;
 
 ghost use Rattle.scripts_model.specs.Buffer.{ByCursors};
@@ -11,43 +11,31 @@ ghost use Rattle.scripts_model.specs.Finishes.{EveryRunFinishes, AllowanceSuffic
 ghost use Rattle.scripts_model.specs.History.{EveryRunExplained};
 
 // With allowance enough every script comes to its end.
-pub fn runs_finish() -> u8
+pub fn runs_finish()
     ensures { EveryRunFinishes }
-{
-    0
-}
+{}
 
 // The greatest allowance is enough for the largest run.
-pub fn allowance_suffices() -> u8
+pub fn allowance_suffices()
     ensures { AllowanceSuffices }
-{
-    0
-}
+{}
 
 // A run stops where its allowance is used up, and before that only at its end.
-pub fn runs_stop() -> u8
+pub fn runs_stop()
     ensures { EveryRunStops }
-{
-    0
-}
+{}
 
 // After every turn the session of a run is explained by its serial order.
-pub fn runs_explained() -> u8
+pub fn runs_explained()
     ensures { EveryRunExplained }
-{
-    0
-}
+{}
 
 // A run that keeps a cursor for each script into one step buffer is the run of the buffer's scripts.
-pub fn runs_by_cursors() -> u8
+pub fn runs_by_cursors()
     ensures { ByCursors }
-{
-    0
-}
+{}
 
 // A run worked out.
-pub fn example_runs() -> u8
+pub fn example_runs()
     ensures { Example }
-{
-    0
-}
+{}

@@ -1,16 +1,19 @@
 -- The waiting list, filled in by a loop.
-use Rattle.std.proofs.Common.{◌≡◌, ℕ, zero, suc, ◌+◌, ◌-◌, ◌*◌, ◌<◌, ◌≤◌, cond, ◌⊎◌, List, [], ◌∷◌, ◌++◌, length, take, drop, set, None, Option, sym, refl, ap, ◌∙◌, subst, inl, inr, append_assoc, append-nil, add-one, arith}
-use Rattle.std.proofs.lemmas.List.{length-set, take_more_set, drop-set-lt, drop-drop}
-use Rattle.std.proofs.lemmas.Bool.{cases_eq}
+use Rattle.std.proofs.Common.{◌≡◌, ℕ, zero, suc, ◌+◌, ◌-◌, ◌*◌, ◌<◌, ◌≤◌, cond, ◌⊎◌, List, [], ◌∷◌, ◌++◌, length, take, drop, set, get_or, None, Option, sym, refl, ap, ◌∙◌, subst, inl, inr, append_assoc, append-nil, add-one, arith}
+use Rattle.std.proofs.lemmas.List.{get_or-take, length-set, take_more_set, drop-set-lt, drop-drop}
+use Rattle.std.proofs.lemmas.List.Sums.{count_by_more_yes, count_by_more_no}
+use Rattle.std.specs.List.{count_by}
+use Rattle.std.proofs.lemmas.Bool.{cases_eq, cases_Bool}
 use Rattle.basics.specs.declared.node.NodeNumber.{NodeNumber}
 use Rattle.basics.specs.declared.refusal.Refusal.{Refusal}
 use Rattle.basics.specs.Sets.{counted}
 use Rattle.basics.proofs.Masks.{counted_le}
 use Rattle.model.specs.declared.table.Phase.{Phase}
 use Rattle.model.specs.declared.table.Phase.TheVariants.{Open, Waiting, Ended}
+use Rattle.model.specs.declared.table.Record.{Record}
 use Rattle.model.specs.Checks.{is_waiting}
 use Rattle.model.specs.Lists.{In, Distinct}
-use Rattle.model.specs.State.{State, node, phase, begun_count}
+use Rattle.model.specs.State.{State, node, blank, phase, begun_count}
 use Rattle.session.specs.Reports.{Listed, firsts, ListsWaiting, waiting_count, WaitingFilled}
 
 -- the bytes of transaction t
@@ -114,6 +117,10 @@ waiters_less p t n m h w =
     let same : waiters p (suc t + (n - suc t)) ≡ waiters p n = ap (waiters p) e in
     omega arith
 
+-- the phase of t, read in the table up to n
+pub table_phase : (s : State) (n t : ℕ) → t < n → (get_or (take n s.records) t blank).phase ≡ phase s t
+table_phase s n t h = ap (λ r. r.phase) (get_or-take n s.records t blank h)
+
 -- where a transaction waits, a buffer with room for all has room for its two bytes
 pub two_fit : (s : State) (t m place len : ℕ) → t < begun_count s → phase s t ≡ Waiting (node m)
     → place ≡ 2 * waiters (phase s) t → 2 * waiting_count s ≤ len → place + 1 < len
@@ -185,3 +192,20 @@ listing_filled s out old i o fits front e rest =
       subst (λ j. ListsWaiting s (take j out)) e (subst (λ l. ListsWaiting s l) (sym front) (listing_lists s)),
       subst (λ j. drop j out ≡ drop j old) e rest,
     )
+
+-- those that wait, counted in the table
+pub waiters_counted : (records : List Record) (n : ℕ) → n ≤ length records
+    → count_by (λ r. is_waiting r.phase) (take n records) ≡ counted (λ t. is_waiting (get_or records t blank).phase) n
+waiters_counted records zero h = refl
+waiters_counted records (suc n) h =
+    let w = is_waiting (get_or records n blank).phase in
+    let before = waiters_counted records n (omega arith) in
+    ap (λ i. count_by (λ r. is_waiting r.phase) (take i records)) (sym (add-one n))
+    ∙ elim (cases_Bool w) [
+      | inl y ↦
+          let one : ◌≡◌ {A = ℕ} (cond w 1 0) 1 = ap (λ b. cond b 1 0) y in
+          omega (arith, count_by_more_yes (λ r. is_waiting r.phase) records n blank (omega arith) y)
+      | inr y ↦
+          let none : ◌≡◌ {A = ℕ} (cond w 1 0) 0 = ap (λ b. cond b 1 0) y in
+          omega (arith, count_by_more_no (λ r. is_waiting r.phase) records n blank (omega arith) y)
+    ]

@@ -1,6 +1,6 @@
 // All transactions before a transaction, by chains of predecessors.
-ghost use Rattle.std.specs.Prelude.{◌≡◌, ℕ, ◌^◌, ◌<◌, ◌≤◌, slice_index_or};
-ghost use Rattle.model.specs.State.{transactions, begun_count};
+ghost use Rattle.std.specs.Prelude.{◌≡◌, ◌≤◌};
+ghost use Rattle.model.specs.State.{begun_count};
 ghost use Rattle.session.specs.Edges.{reported, edge_to};
 ghost use Rattle.session.specs.Of.{model_of};
 ghost use Rattle.session.specs.Reports.{AllBefore};
@@ -13,30 +13,22 @@ use rules::rule::LockRule;
 use stores::store::NodeStore;
 
 impl Predecessors {
-    fn mask(&self, t: u8) -> u32
-        ensures { result ≡ reported self.now t }
+    // The set of t, as far as the list goes.
+    fn at(&self, t: TransactionNumber) -> TransactionSet
+        ensures { result.mask ≡ reported self.now t.0 }
     {
-        mask_at(&self.of, t)
-    }
-}
-
-// The mask of the set at t, as far as the list goes.
-fn mask_at(sets: &[TransactionSet], t: u8) -> u32
-    ensures { result ≡ (slice_index_or sets.now t (transactions 0)).mask }
-{
-    if (t as usize) < sets.len() {
-        sets[t as usize].mask
-    } else {
-        0
+        self.of.get(usize::from(t.0)).copied().unwrap_or_default()
     }
 }
 
 // From each transaction an edge leads to each of its predecessors.
 impl Graph for Predecessors {
+    type Points = TransactionSet;
+
     ghost edge = { edge_to };
 
-    fn successors(&self, point: u8) -> u64 {
-        self.mask(point) as u64
+    fn successors(&self, point: TransactionNumber) -> TransactionSet {
+        self.at(point)
     }
 }
 
@@ -47,7 +39,6 @@ impl<R: LockRule, S: NodeStore> Session<R, S> {
         ensures unbegun { begun_count (model_of R.rule S.store self.now) ≤ t.0 → result.mask ≡ 0 }
     {
         let all = self.predecessors();
-        let found = reach(&all, all.mask(t.0) as u64);
-        TransactionSet { mask: found as u32 }
+        reach(&all, all.at(t))
     }
 }

@@ -5,7 +5,6 @@ pub mod accesses;
 pub mod answer;
 pub mod calls;
 pub mod chains;
-mod judge;
 pub mod order;
 pub mod precedence;
 pub mod reports;

@@ -1,5 +1,6 @@
 // The serial order that explains a session.
 ghost use Rattle.std.specs.Prelude.{◌≡◌, length};
+ghost use Rattle.std.specs.Option.{option_map};
 ghost use Rattle.basics.specs.Refusals.{answer_unless, leave_unless};
 ghost use Rattle.model.specs.Order.{predecessors, ready, lowest, serial_order};
 ghost use Rattle.model.specs.State.{begun_count};
@@ -8,6 +9,7 @@ ghost use Rattle.session.specs.Reports.{short, filled};
 
 use crate::state::Session;
 use basics::refusal::Refusal;
+use basics::set::NumberSet;
 use basics::transaction::{TransactionNumber, TransactionSet};
 use rules::rule::LockRule;
 use stores::store::NodeStore;
@@ -17,23 +19,19 @@ impl<R: LockRule, S: NodeStore> Session<R, S> {
     fn ready(&self, placed: TransactionSet, t: TransactionNumber) -> bool
         ensures { result ≡ ready (predecessors (model_of R.rule S.store self.now)) placed.mask t.0 }
     {
-        !placed.contains(t) & self.predecessors_of(t).is_subset(placed)
+        !placed.contains(t) && self.predecessors_of(t).is_subset(placed)
     }
 
     // The lowest transaction that is ready.
-    fn lowest(&self, placed: TransactionSet) -> Option<u8>
-        ensures { result ≡ lowest (ready (predecessors (model_of R.rule S.store self.now)) placed.mask) (begun_count (model_of R.rule S.store self.now)) }
+    fn lowest(&self, placed: TransactionSet) -> Option<TransactionNumber>
+        ensures { option_map (λ t. t.0) result ≡ lowest (ready (predecessors (model_of R.rule S.store self.now)) placed.mask) (begun_count (model_of R.rule S.store self.now)) }
     {
-        let n = self.begun_count();
-        for u in 0..n {
-            if self.ready(placed, TransactionNumber(u)) {
-                return Some(u);
-            }
-        }
-        None
+        let t = (0..self.begun_count()).find(|&t| self.ready(placed, TransactionNumber(t)))?;
+        Some(TransactionNumber(t))
     }
 
-    // Fills in the begun transactions in their serial order, a byte for each, and answers how many they are.
+    // Fills in the begun transactions in their serial order, a byte for each, and answers how many they are. The caller
+    // lends the buffer, since nothing is allocated.
     pub fn order(&self, buffer: &mut [u8]) -> Result<u8, Refusal>
         ensures answers { result ≡ answer_unless (short (length buffer.old) (begun_count (model_of R.rule S.store self.now))) (length (serial_order (model_of R.rule S.store self.now))) }
         ensures leaves { buffer.new ≡ leave_unless (short (length buffer.old) (begun_count (model_of R.rule S.store self.now))) buffer.old (filled (serial_order (model_of R.rule S.store self.now)) buffer.old) }
@@ -43,14 +41,12 @@ impl<R: LockRule, S: NodeStore> Session<R, S> {
             return Err(Refusal::ShortBuffer);
         }
         let mut placed = TransactionSet::empty();
-        for k in 0..n {
-            match self.lowest(placed) {
-                Some(t) => {
-                    buffer[k as usize] = t;
-                    placed = placed.with(TransactionNumber(t));
-                }
-                None => return Ok(k),
-            }
+        for (k, place) in buffer[..n as usize].iter_mut().enumerate() {
+            let Some(t) = self.lowest(placed) else {
+                return Ok(k as u8);
+            };
+            *place = t.0;
+            placed = placed.with(t);
         }
         Ok(n)
     }

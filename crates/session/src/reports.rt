@@ -1,5 +1,5 @@
 // Who holds a node, and who precedes whom.
-ghost use Rattle.std.specs.Prelude.{◌≡◌, ℕ, ◌^◌, ◌<◌, length, None, slice_index_or};
+ghost use Rattle.std.specs.Prelude.{◌≡◌, ℕ, ◌^◌, ◌<◌, length};
 ghost use Rattle.model.specs.Order.{holder_set, waited_for, predecessors};
 ghost use Rattle.session.specs.Edges.{reported};
 ghost use Rattle.session.specs.Of.{model_of};
@@ -9,9 +9,11 @@ use crate::precedence::Predecessors;
 use crate::state::Session;
 use basics::node::NodeNumber;
 use basics::refusal::Refusal;
+use basics::set::NumberSet;
 use basics::transaction::{TransactionNumber, TransactionSet};
 use model::table::Phase;
 use rules::rule::LockRule;
+use std::array;
 use stores::store::NodeStore;
 
 impl<R: LockRule, S: NodeStore> Session<R, S> {
@@ -20,7 +22,7 @@ impl<R: LockRule, S: NodeStore> Session<R, S> {
         ensures { result ≡ holder_report (model_of R.rule S.store self.now) n.0 }
     {
         if n.0 < self.count() {
-            Ok(self.holders[n.0 as usize])
+            Ok(self.holders[usize::from(n.0)])
         } else {
             Err(Refusal::NoSuchNode)
         }
@@ -31,17 +33,18 @@ impl<R: LockRule, S: NodeStore> Session<R, S> {
         ensures { result.mask ≡ waited_for (model_of R.rule S.store self.now) phase }
     {
         match phase {
-            Phase::Waiting(n) => holder_set(holder_at(&self.holders, n)),
-            _ => TransactionSet::empty(),
+            Phase::Waiting(n) => holder_set(self.holders.get(usize::from(n.0)).copied().flatten()),
+            Phase::Open | Phase::Ended => TransactionSet::empty(),
         }
     }
 
     // Those that must come before t: they locked one of its nodes first, or hold the node that it waits for.
     pub(crate) fn predecessors_of(&self, t: TransactionNumber) -> TransactionSet
-        ensures { result.mask ≡ predecessors (model_of R.rule S.store self.now) t.0 }
+        ensures mask { result.mask ≡ predecessors (model_of R.rule S.store self.now) t.0 }
+        ensures small { result.mask < 2 ^ 32 }
     {
         if t.0 < self.begun_count() {
-            let i = t.0 as usize;
+            let i = usize::from(t.0);
             self.earlier[i].union(self.waited_for(self.records[i].phase))
         } else {
             TransactionSet::empty()
@@ -54,30 +57,14 @@ impl<R: LockRule, S: NodeStore> Session<R, S> {
         ensures long { length result.of ≡ 32 }
         ensures small { (t : ℕ) → reported result t < 2 ^ 32 }
     {
-        let mut of = [TransactionSet { mask: 0 }; 32];
-        for t in 0..32u8 {
-            of[t as usize] = self.predecessors_of(TransactionNumber(t));
+        Predecessors {
+            of: array::from_fn(|t| self.predecessors_of(TransactionNumber(t as u8))),
         }
-        Predecessors { of }
     }
 }
 
 fn holder_set(holder: Option<TransactionNumber>) -> TransactionSet
     ensures { result.mask ≡ holder_set holder }
 {
-    match holder {
-        Some(u) => TransactionSet::empty().with(u),
-        None => TransactionSet::empty(),
-    }
-}
-
-// Who holds n, as far as the list goes.
-fn holder_at(holders: &[Option<TransactionNumber>], n: NodeNumber) -> Option<TransactionNumber>
-    ensures { result ≡ slice_index_or holders.now n.0 None }
-{
-    if (n.0 as usize) < holders.len() {
-        holders[n.0 as usize]
-    } else {
-        None
-    }
+    holder.map_or(TransactionSet::empty(), |u| TransactionSet::empty().with(u))
 }

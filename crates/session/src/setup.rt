@@ -6,6 +6,7 @@ ghost use Rattle.session.specs.Of.{model_of};
 
 use crate::state::Session;
 use basics::node::NodeSet;
+use basics::set::NumberSet;
 use basics::transaction::TransactionSet;
 use model::table::{Phase, Record};
 use rules::rule::LockRule;
@@ -21,8 +22,8 @@ impl<R: LockRule, S: NodeStore> Session<R, S> {
     {
         let blank = Record {
             phase: Phase::Open,
-            locked: NodeSet { mask: 0 },
-            held: NodeSet { mask: 0 },
+            locked: NodeSet::empty(),
+            held: NodeSet::empty(),
         };
         Session {
             rule,
@@ -30,8 +31,8 @@ impl<R: LockRule, S: NodeStore> Session<R, S> {
             begun: 0,
             records: [blank; 32],
             holders: [None; 64],
-            lockers: [TransactionSet { mask: 0 }; 64],
-            earlier: [TransactionSet { mask: 0 }; 32],
+            lockers: [TransactionSet::empty(); 64],
+            earlier: [TransactionSet::empty(); 32],
         }
     }
 
@@ -39,15 +40,7 @@ impl<R: LockRule, S: NodeStore> Session<R, S> {
     pub fn into_parts(self) -> (R, S)
         ensures { result ≡ (self.rule, self.store) }
     {
-        let Session {
-            rule,
-            store,
-            begun: _,
-            records: _,
-            holders: _,
-            lockers: _,
-            earlier: _,
-        } = self;
+        let Session { rule, store, .. } = self;
         (rule, store)
     }
 
@@ -55,14 +48,14 @@ impl<R: LockRule, S: NodeStore> Session<R, S> {
     pub(crate) fn count(&self) -> u8
         ensures { result ≡ count (model_of R.rule S.store self.now) }
     {
-        let ruled = self.rule.count();
-        let stored = self.store.count();
-        if ruled < stored { ruled } else { stored }
+        self.rule.count().min(self.store.count())
     }
 
+    // At most 32. A session has no invariant of its own to say so, so that a program can own it beside a store that borrows
+    // an image.
     pub(crate) fn begun_count(&self) -> u8
         ensures { result ≡ begun_count (model_of R.rule S.store self.now) }
     {
-        if self.begun < 32 { self.begun } else { 32 }
+        self.begun.min(32)
     }
 }

@@ -1,7 +1,9 @@
 use basics::transaction::{TransactionNumber, TransactionSet};
 use model::table::Record;
 
-// The tables of a session, with the rule that it asks and the store that it reads and writes.
+// The tables of a session, with the rule that it asks and the store that it reads and writes. Records and earlier go by
+// the transaction, holders and lockers by the node; they stand side by side, and all 32 records from the start, as in the
+// model, whose facts speak of one table at a time.
 #[derive(Drop)]
 pub struct Session<R, S> {
     pub(crate) rule: R,

@@ -1,12 +1,13 @@
 // Who waits for which node.
 ghost use Rattle.std.specs.Prelude.{◌≡◌, ◌*◌, length};
 ghost use Rattle.basics.specs.Refusals.{answer_unless};
+ghost use Rattle.model.specs.Checks.{is_waiting};
 ghost use Rattle.session.specs.Of.{model_of};
 ghost use Rattle.session.specs.Reports.{short, waiting_count, WaitingFilled};
 
 use crate::state::Session;
 use basics::refusal::Refusal;
-use model::table::Phase;
+use model::table::{Phase, Record};
 use rules::rule::LockRule;
 use stores::store::NodeStore;
 
@@ -15,15 +16,8 @@ impl<R: LockRule, S: NodeStore> Session<R, S> {
     fn waiting_count(&self) -> u8
         ensures { result ≡ waiting_count (model_of R.rule S.store self.now) }
     {
-        let mut count = 0;
-        for t in 0..self.begun_count() {
-            let phase = self.records[t as usize].phase;
-            let Phase::Waiting(_) = phase else {
-                continue;
-            };
-            count += 1;
-        }
-        count
+        let n = self.begun_count() as usize;
+        self.records[..n].iter().filter(|row| waits(row)).count() as u8
     }
 
     // Fills in each waiting transaction and its node, two bytes for each, and answers how many they are.
@@ -35,16 +29,26 @@ impl<R: LockRule, S: NodeStore> Session<R, S> {
         if buffer.len() < 2 * count as usize {
             return Err(Refusal::ShortBuffer);
         }
+        // By index. Tried with `chunks_exact_mut(2)`: an invariant names the chunks that are left, and not the bytes of those
+        // that are written, so the proof of what the buffer holds did not close.
         let mut place = 0;
-        for t in 0..self.begun_count() {
-            let phase = self.records[t as usize].phase;
-            let Phase::Waiting(n) = phase else {
+        for (t, record) in self.records[..self.begun_count() as usize]
+            .iter()
+            .enumerate()
+        {
+            let Phase::Waiting(n) = record.phase else {
                 continue;
             };
-            buffer[place] = t;
+            buffer[place] = t as u8;
             buffer[place + 1] = n.0;
             place += 2;
         }
         Ok(count)
     }
+}
+
+fn waits(row: &Record) -> bool
+    ensures { result ≡ is_waiting row.now.phase }
+{
+    matches!(row.phase, Phase::Waiting(_))
 }

@@ -1,10 +1,11 @@
 use basics::node::NodeNumber;
 use basics::refusal::Refusal;
+use basics::set::NumberSet;
 use basics::transaction::{TransactionNumber, TransactionSet};
 use plans::plan::Plan;
 use rules::rule::LockRule;
 use rules::tree::TreeRule;
-use session::answer::Answer;
+use session::answer::{Answer, Reply};
 use session::state::Session;
 use std::process::Abort;
 use std::test::Fail;
@@ -27,7 +28,7 @@ const LEAF: NodeNumber = NodeNumber(3);
 
 const NO_NODE: NodeNumber = NodeNumber(4);
 
-const DONE: Answer = Answer::Done(0);
+const DONE: Answer = Ok(Reply::Done(0));
 
 #[derive(Clone, Copy, Drop)]
 enum Step {
@@ -91,45 +92,44 @@ fn call<R: LockRule, S: NodeStore>(session: &mut Session<R, S>, step: Step) -> A
 
 fn calls<R: LockRule, S: NodeStore>(session: &mut Session<R, S>, steps: &[Step]) {
     for step in steps {
-        call(session, *step);
+        let _ = call(session, *step);
     }
 }
 
+// The handle and the session, here and below, are two things that each test has at hand: a struct would be made for the call.
 fn answered<R: LockRule, S: NodeStore>(
     rt: &impl Abort,
     session: &mut Session<R, S>,
     steps: &[(Step, Answer)],
 ) {
-    for row in steps {
-        let (step, answer) = *row;
-        assert_eq!(rt; call(session, step), answer);
+    for (step, answer) in steps {
+        assert_eq!(rt; call(session, *step), *answer);
     }
+}
+
+// Tries a new session.
+fn tried<F: FnOnce(&mut Session<TreeRule<'_>, TableStore>)>(body: F) -> Result<(), Fail>
+    requires { F.IsAlwaysCallable body }
+{
+    let plan = tree()?;
+    let mut session = Session::new(TreeRule { plan: &plan }, values()?);
+    body(&mut session);
+    Ok(())
 }
 
 // A new session answers these steps so.
 fn answers(rt: &impl Abort, steps: &[(Step, Answer)]) -> Result<(), Fail> {
-    let plan = tree()?;
-    let mut session = Session::new(TreeRule { plan: &plan }, values()?);
-    answered(rt, &mut session, steps);
-    Ok(())
-}
-
-fn begins_all<R: LockRule, S: NodeStore>(rt: &impl Abort, session: &mut Session<R, S>) {
-    for t in 0..32 {
-        assert_eq!(rt; session.begin(), Answer::Done(t));
-    }
-    assert_eq!(rt;
-        session.begin(),
-        Answer::Refused(Refusal::TooManyTransactions)
-    );
+    tried(|session| answered(rt, session, steps))
 }
 
 #[test]
 fn begins_32_transactions(rt: HostRuntime) -> Result<(), Fail> {
-    let plan = tree()?;
-    let mut session = Session::new(TreeRule { plan: &plan }, values()?);
-    begins_all(&rt, &mut session);
-    Ok(())
+    tried(|session| {
+        for t in 0..32 {
+            assert_eq!(rt; session.begin(), Ok(Reply::Done(t)));
+        }
+        assert_eq!(rt; session.begin(), Err(Refusal::TooManyTransactions));
+    })
 }
 
 #[test]
@@ -137,23 +137,20 @@ fn refuses_who_is_not_begun(rt: HostRuntime) -> Result<(), Fail> {
     answers(
         &rt,
         &[
-            (Step::Lock(T0, ROOT), Answer::Refused(Refusal::NotBegun)),
-            (
-                Step::Release(T0, NO_NODE),
-                Answer::Refused(Refusal::NotBegun),
-            ),
-            (Step::Begin, Answer::Done(0)),
-            (Step::Read(T1, ROOT), Answer::Refused(Refusal::NotBegun)),
+            (Step::Lock(T0, ROOT), Err(Refusal::NotBegun)),
+            (Step::Release(T0, NO_NODE), Err(Refusal::NotBegun)),
+            (Step::Begin, Ok(Reply::Done(0))),
+            (Step::Read(T1, ROOT), Err(Refusal::NotBegun)),
             (
                 Step::Write(TransactionNumber(255), ROOT, 1),
-                Answer::Refused(Refusal::NotBegun),
+                Err(Refusal::NotBegun),
             ),
             (
                 Step::Adjust(TransactionNumber(32), NO_NODE, 100_000),
-                Answer::Refused(Refusal::NotBegun),
+                Err(Refusal::NotBegun),
             ),
-            (Step::Withdraw(T1), Answer::Refused(Refusal::NotBegun)),
-            (Step::End(T1), Answer::Refused(Refusal::NotBegun)),
+            (Step::Withdraw(T1), Err(Refusal::NotBegun)),
+            (Step::End(T1), Err(Refusal::NotBegun)),
         ],
     )
 }
@@ -163,30 +160,15 @@ fn refuses_who_is_ended(rt: HostRuntime) -> Result<(), Fail> {
     answers(
         &rt,
         &[
-            (Step::Begin, Answer::Done(0)),
+            (Step::Begin, Ok(Reply::Done(0))),
             (Step::End(T0), DONE),
-            (
-                Step::Lock(T0, NO_NODE),
-                Answer::Refused(Refusal::AlreadyEnded),
-            ),
-            (
-                Step::Release(T0, ROOT),
-                Answer::Refused(Refusal::AlreadyEnded),
-            ),
-            (
-                Step::Read(T0, NO_NODE),
-                Answer::Refused(Refusal::AlreadyEnded),
-            ),
-            (
-                Step::Write(T0, ROOT, 1),
-                Answer::Refused(Refusal::AlreadyEnded),
-            ),
-            (
-                Step::Adjust(T0, ROOT, 100_000),
-                Answer::Refused(Refusal::AlreadyEnded),
-            ),
-            (Step::Withdraw(T0), Answer::Refused(Refusal::AlreadyEnded)),
-            (Step::End(T0), Answer::Refused(Refusal::AlreadyEnded)),
+            (Step::Lock(T0, NO_NODE), Err(Refusal::AlreadyEnded)),
+            (Step::Release(T0, ROOT), Err(Refusal::AlreadyEnded)),
+            (Step::Read(T0, NO_NODE), Err(Refusal::AlreadyEnded)),
+            (Step::Write(T0, ROOT, 1), Err(Refusal::AlreadyEnded)),
+            (Step::Adjust(T0, ROOT, 100_000), Err(Refusal::AlreadyEnded)),
+            (Step::Withdraw(T0), Err(Refusal::AlreadyEnded)),
+            (Step::End(T0), Err(Refusal::AlreadyEnded)),
         ],
     )
 }
@@ -196,49 +178,22 @@ fn looks_for_the_node_before_the_wait(rt: HostRuntime) -> Result<(), Fail> {
     answers(
         &rt,
         &[
-            (Step::Begin, Answer::Done(0)),
-            (Step::Begin, Answer::Done(1)),
+            (Step::Begin, Ok(Reply::Done(0))),
+            (Step::Begin, Ok(Reply::Done(1))),
             (Step::Lock(T0, ROOT), DONE),
-            (
-                Step::Lock(T1, NO_NODE),
-                Answer::Refused(Refusal::NoSuchNode),
-            ),
-            (Step::Lock(T1, ROOT), Answer::Waiting(T0)),
-            (
-                Step::Lock(T1, NO_NODE),
-                Answer::Refused(Refusal::NoSuchNode),
-            ),
-            (
-                Step::Release(T1, NO_NODE),
-                Answer::Refused(Refusal::NoSuchNode),
-            ),
-            (
-                Step::Read(T1, NodeNumber(255)),
-                Answer::Refused(Refusal::NoSuchNode),
-            ),
-            (
-                Step::Write(T1, NO_NODE, 1),
-                Answer::Refused(Refusal::NoSuchNode),
-            ),
-            (
-                Step::Adjust(T1, NO_NODE, 100_000),
-                Answer::Refused(Refusal::NoSuchNode),
-            ),
-            (Step::Lock(T1, LEFT), Answer::Refused(Refusal::StillWaiting)),
-            (
-                Step::Release(T1, ROOT),
-                Answer::Refused(Refusal::StillWaiting),
-            ),
-            (Step::Read(T1, ROOT), Answer::Refused(Refusal::StillWaiting)),
-            (
-                Step::Write(T1, ROOT, 1),
-                Answer::Refused(Refusal::StillWaiting),
-            ),
-            (
-                Step::Adjust(T1, ROOT, 100_000),
-                Answer::Refused(Refusal::StillWaiting),
-            ),
-            (Step::End(T1), Answer::Refused(Refusal::StillWaiting)),
+            (Step::Lock(T1, NO_NODE), Err(Refusal::NoSuchNode)),
+            (Step::Lock(T1, ROOT), Ok(Reply::Waiting(T0))),
+            (Step::Lock(T1, NO_NODE), Err(Refusal::NoSuchNode)),
+            (Step::Release(T1, NO_NODE), Err(Refusal::NoSuchNode)),
+            (Step::Read(T1, NodeNumber(255)), Err(Refusal::NoSuchNode)),
+            (Step::Write(T1, NO_NODE, 1), Err(Refusal::NoSuchNode)),
+            (Step::Adjust(T1, NO_NODE, 100_000), Err(Refusal::NoSuchNode)),
+            (Step::Lock(T1, LEFT), Err(Refusal::StillWaiting)),
+            (Step::Release(T1, ROOT), Err(Refusal::StillWaiting)),
+            (Step::Read(T1, ROOT), Err(Refusal::StillWaiting)),
+            (Step::Write(T1, ROOT, 1), Err(Refusal::StillWaiting)),
+            (Step::Adjust(T1, ROOT, 100_000), Err(Refusal::StillWaiting)),
+            (Step::End(T1), Err(Refusal::StillWaiting)),
         ],
     )
 }
@@ -248,16 +203,16 @@ fn waits_and_withdraws(rt: HostRuntime) -> Result<(), Fail> {
     answers(
         &rt,
         &[
-            (Step::Begin, Answer::Done(0)),
-            (Step::Begin, Answer::Done(1)),
+            (Step::Begin, Ok(Reply::Done(0))),
+            (Step::Begin, Ok(Reply::Done(1))),
             (Step::Lock(T1, ROOT), DONE),
-            (Step::Withdraw(T0), Answer::Refused(Refusal::NotWaiting)),
-            (Step::Lock(T0, ROOT), Answer::Waiting(T1)),
-            (Step::Lock(T0, ROOT), Answer::Waiting(T1)),
+            (Step::Withdraw(T0), Err(Refusal::NotWaiting)),
+            (Step::Lock(T0, ROOT), Ok(Reply::Waiting(T1))),
+            (Step::Lock(T0, ROOT), Ok(Reply::Waiting(T1))),
             (Step::Withdraw(T0), DONE),
-            (Step::Withdraw(T0), Answer::Refused(Refusal::NotWaiting)),
+            (Step::Withdraw(T0), Err(Refusal::NotWaiting)),
             (Step::Lock(T0, LEFT), DONE),
-            (Step::Lock(T1, LEFT), Answer::Waiting(T0)),
+            (Step::Lock(T1, LEFT), Ok(Reply::Waiting(T0))),
             (Step::Release(T0, LEFT), DONE),
             (Step::Lock(T1, LEFT), DONE),
             (Step::End(T1), DONE),
@@ -271,17 +226,17 @@ fn asks_the_rule(rt: HostRuntime) -> Result<(), Fail> {
     answers(
         &rt,
         &[
-            (Step::Begin, Answer::Done(0)),
-            (Step::Begin, Answer::Done(1)),
+            (Step::Begin, Ok(Reply::Done(0))),
+            (Step::Begin, Ok(Reply::Done(1))),
             (Step::Lock(T0, LEFT), DONE),
-            (Step::Lock(T0, LEFT), Answer::Refused(Refusal::LockedBefore)),
-            (Step::Lock(T0, ROOT), Answer::Refused(Refusal::RuleDenies)),
-            (Step::Lock(T0, RIGHT), Answer::Refused(Refusal::RuleDenies)),
+            (Step::Lock(T0, LEFT), Err(Refusal::LockedBefore)),
+            (Step::Lock(T0, ROOT), Err(Refusal::RuleDenies)),
+            (Step::Lock(T0, RIGHT), Err(Refusal::RuleDenies)),
             (Step::Lock(T0, LEAF), DONE),
             (Step::Release(T0, LEAF), DONE),
-            (Step::Lock(T0, LEAF), Answer::Refused(Refusal::LockedBefore)),
+            (Step::Lock(T0, LEAF), Err(Refusal::LockedBefore)),
             (Step::Lock(T1, LEAF), DONE),
-            (Step::Lock(T1, LEFT), Answer::Refused(Refusal::RuleDenies)),
+            (Step::Lock(T1, LEFT), Err(Refusal::RuleDenies)),
         ],
     )
 }
@@ -291,20 +246,17 @@ fn uses_only_what_it_holds(rt: HostRuntime) -> Result<(), Fail> {
     answers(
         &rt,
         &[
-            (Step::Begin, Answer::Done(0)),
-            (Step::Begin, Answer::Done(1)),
+            (Step::Begin, Ok(Reply::Done(0))),
+            (Step::Begin, Ok(Reply::Done(1))),
             (Step::Lock(T1, ROOT), DONE),
-            (Step::Release(T0, ROOT), Answer::Refused(Refusal::NotHeld)),
-            (Step::Read(T0, ROOT), Answer::Refused(Refusal::NotHeld)),
-            (Step::Write(T0, LEFT, 1), Answer::Refused(Refusal::NotHeld)),
-            (
-                Step::Adjust(T0, LEFT, 100_000),
-                Answer::Refused(Refusal::NotHeld),
-            ),
-            (Step::Read(T1, ROOT), Answer::Done(5)),
+            (Step::Release(T0, ROOT), Err(Refusal::NotHeld)),
+            (Step::Read(T0, ROOT), Err(Refusal::NotHeld)),
+            (Step::Write(T0, LEFT, 1), Err(Refusal::NotHeld)),
+            (Step::Adjust(T0, LEFT, 100_000), Err(Refusal::NotHeld)),
+            (Step::Read(T1, ROOT), Ok(Reply::Done(5))),
             (Step::Release(T1, ROOT), DONE),
-            (Step::Release(T1, ROOT), Answer::Refused(Refusal::NotHeld)),
-            (Step::Read(T1, ROOT), Answer::Refused(Refusal::NotHeld)),
+            (Step::Release(T1, ROOT), Err(Refusal::NotHeld)),
+            (Step::Read(T1, ROOT), Err(Refusal::NotHeld)),
         ],
     )
 }
@@ -314,46 +266,31 @@ fn keeps_values_in_range(rt: HostRuntime) -> Result<(), Fail> {
     answers(
         &rt,
         &[
-            (Step::Begin, Answer::Done(0)),
+            (Step::Begin, Ok(Reply::Done(0))),
             (Step::Lock(T0, ROOT), DONE),
             (Step::Write(T0, ROOT, 10), DONE),
-            (
-                Step::Write(T0, ROOT, 11),
-                Answer::Refused(Refusal::OutOfRange),
-            ),
-            (
-                Step::Write(T0, ROOT, -1),
-                Answer::Refused(Refusal::OutOfRange),
-            ),
+            (Step::Write(T0, ROOT, 11), Err(Refusal::OutOfRange)),
+            (Step::Write(T0, ROOT, -1), Err(Refusal::OutOfRange)),
             (
                 Step::Write(T0, ROOT, 2_147_483_647),
-                Answer::Refused(Refusal::OutOfRange),
+                Err(Refusal::OutOfRange),
             ),
-            (Step::Read(T0, ROOT), Answer::Done(10)),
+            (Step::Read(T0, ROOT), Ok(Reply::Done(10))),
             (Step::Adjust(T0, ROOT, -10), DONE),
-            (
-                Step::Adjust(T0, ROOT, -1),
-                Answer::Refused(Refusal::OutOfRange),
-            ),
-            (
-                Step::Adjust(T0, ROOT, 65_535),
-                Answer::Refused(Refusal::OutOfRange),
-            ),
-            (
-                Step::Adjust(T0, ROOT, -65_535),
-                Answer::Refused(Refusal::OutOfRange),
-            ),
+            (Step::Adjust(T0, ROOT, -1), Err(Refusal::OutOfRange)),
+            (Step::Adjust(T0, ROOT, 65_535), Err(Refusal::OutOfRange)),
+            (Step::Adjust(T0, ROOT, -65_535), Err(Refusal::OutOfRange)),
             (
                 Step::Adjust(T0, ROOT, 65_536),
-                Answer::Refused(Refusal::AmountOutOfBounds),
+                Err(Refusal::AmountOutOfBounds),
             ),
             (
                 Step::Adjust(T0, ROOT, -65_536),
-                Answer::Refused(Refusal::AmountOutOfBounds),
+                Err(Refusal::AmountOutOfBounds),
             ),
             (
                 Step::Adjust(T0, ROOT, -2_147_483_647),
-                Answer::Refused(Refusal::AmountOutOfBounds),
+                Err(Refusal::AmountOutOfBounds),
             ),
             (Step::Read(T0, ROOT), DONE),
         ],
@@ -373,17 +310,11 @@ fn gives_the_store_back(rt: HostRuntime) -> Result<(), Fail> {
             (Step::Lock(T0, RIGHT), DONE),
             (Step::Lock(T0, LEFT), DONE),
             (Step::Lock(T0, LEAF), DONE),
-            (Step::Read(T0, RIGHT), Answer::Done(20)),
-            (
-                Step::Adjust(T0, RIGHT, -9),
-                Answer::Refused(Refusal::OutOfRange),
-            ),
+            (Step::Read(T0, RIGHT), Ok(Reply::Done(20))),
+            (Step::Adjust(T0, RIGHT, -9), Err(Refusal::OutOfRange)),
             (Step::Adjust(T0, RIGHT, -15), DONE),
-            (Step::Read(T0, RIGHT), Answer::Done(5)),
-            (
-                Step::Write(T0, LEAF, 0),
-                Answer::Refused(Refusal::OutOfRange),
-            ),
+            (Step::Read(T0, RIGHT), Ok(Reply::Done(5))),
+            (Step::Write(T0, LEAF, 0), Err(Refusal::OutOfRange)),
             (Step::Write(T0, LEFT, -10), DONE),
         ],
     );
@@ -413,23 +344,20 @@ fn holders_and_waiters<R: LockRule, S: NodeStore>(rt: &impl Abort, session: &mut
     let mut buffer = [9; 3];
     assert_eq!(rt; session.waiting(&mut buffer), Ok(1));
     assert_eq!(rt; buffer, [0, 0, 9]);
-    session.end(T2);
+    let _ = session.end(T2);
     assert_eq!(rt; session.holder(ROOT), Ok(None));
     assert_eq!(rt;
         session.waiting(&mut buffer),
         Ok(1),
         "its node is free, and it waits"
     );
-    session.withdraw(T0);
+    let _ = session.withdraw(T0);
     assert_eq!(rt; session.waiting(&mut buffer), Ok(0));
 }
 
 #[test]
 fn reports_holders_and_waiters(rt: HostRuntime) -> Result<(), Fail> {
-    let plan = tree()?;
-    let mut session = Session::new(TreeRule { plan: &plan }, values()?);
-    holders_and_waiters(&rt, &mut session);
-    Ok(())
+    tried(|session| holders_and_waiters(&rt, session))
 }
 
 fn serial_order<R: LockRule, S: NodeStore>(rt: &impl Abort, session: &mut Session<R, S>) {
@@ -467,8 +395,5 @@ fn serial_order<R: LockRule, S: NodeStore>(rt: &impl Abort, session: &mut Sessio
 
 #[test]
 fn reports_the_serial_order(rt: HostRuntime) -> Result<(), Fail> {
-    let plan = tree()?;
-    let mut session = Session::new(TreeRule { plan: &plan }, values()?);
-    serial_order(&rt, &mut session);
-    Ok(())
+    tried(|session| serial_order(&rt, session))
 }

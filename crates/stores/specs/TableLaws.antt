@@ -13,6 +13,7 @@ use Rattle.stores.specs.Table.{no_row, SmallRow, rows_store}
 pub no_row_small : SmallRow no_row
 no_row_small = ((le_z_yes tt, le_z_yes tt), (le_z_yes tt, le_z_yes tt), (le_z_yes tt, le_z_yes tt))
 
+-- the first rows of a table are small where all are
 pub small_rows : (count : ℕ) (rows : List Row) → ((n : ℕ) → SmallRow (slice_index_or rows n no_row)) → (n : ℕ) → SmallRow (slice_index_or (take count rows) n no_row)
 small_rows count rows small n = elim (cases_lt n count) [
   | inl l ↦ subst SmallRow (sym (get_or-take count rows n no_row l)) (small n)
@@ -21,13 +22,12 @@ small_rows count rows small n = elim (cases_lt n count) [
 
 pub table_lawful : (t : TableStore) → Lawful (rows_store (rows_of t))
 table_lawful t =
-    let small = small_rows t.count t.rows t.small in
     let past = λ (n : ℕ) (h : length (rows_of t) ≤ n). get_or_past (rows_of t) n no_row h in
     record {
-      few = omega (arith, length-take t.count t.rows, t.few);
-      small_value = λ n. (small n).0;
-      small_low = λ n. (small n).1;
-      small_high = λ n. (small n).2;
+      few = t.few;
+      small_value = λ n. (t.small n).0;
+      small_low = λ n. (t.small n).1;
+      small_high = λ n. (t.small n).2;
       no_value = λ n h. ap (λ r. r.value) (past n h);
       no_low = λ n h. ap (λ r. r.low) (past n h);
       no_high = λ n h. ap (λ r. r.high) (past n h);

@@ -12,7 +12,7 @@ use basics::node::NodeNumber;
 use basics::refusal::Refusal;
 use basics::transaction::TransactionNumber;
 use rules::rule::LockRule;
-use session::answer::Answer;
+use session::answer::{Answer, Reply};
 use session::state::Session;
 use stores::store::NodeStore;
 
@@ -30,13 +30,12 @@ impl Ticket {
         ] }
         ensures leaves { model_of R.rule S.store session.new ≡ after (model_of R.rule S.store session.old) calls.begin (answer (model_of R.rule S.store session.old) calls.begin) }
     {
-        match session.begin() {
-            Answer::Done(t) => Ok(Ticket {
-                number: TransactionNumber(t as u8),
-            }),
-            Answer::Refused(refusal) => Err(refusal),
-            Answer::Waiting(_) => unreachable(),
-        }
+        let Reply::Done(t) = session.begin()? else {
+            unreachable()
+        };
+        Ok(Ticket {
+            number: TransactionNumber(t as u8),
+        })
     }
 
     // The number of its transaction.
@@ -46,6 +45,8 @@ impl Ticket {
         self.number // as it was begun
     }
 
+    // From here to `withdraw` each call is the session's with the ticket's number. One function that takes a closure would
+    // be no plainer, since each contract names its own call.
     pub fn lock<R: LockRule, S: NodeStore>(
         &self,
         session: &mut Session<R, S>,

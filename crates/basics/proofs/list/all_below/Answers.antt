@@ -1,22 +1,8 @@
-use Rattle.std.proofs.Common.{sym, ◌∙◌, arith}
-use Rattle.std.proofs.lemmas.List.{at_drop_all}
-use Rattle.std.proofs.lemmas.Bool.Decides.{nat_tests}
-use Rattle.basics.specs.Lists.{all_below}
-use Rattle.basics.proofs.Listing.{below_next}
+-- The check finds this alone; written out, it shows which fact a wrong comparison breaks.
+use Rattle.std.proofs.Common.{ltb, rules, tests}
+use Rattle.std.proofs.lemmas.Iterator.{YieldsList-from_slice}
+use Rattle.std.proofs.lemmas.Iterator.Search.{all_from_yields_List}
 use Rattle.basics.proofs.list.all_below.Goals as goal
 
-pub returns-then-n-limit : goal.returns-then-n-limit
-returns-then-n-limit c =
-    let e = below_next c.args.limit c.args.nodes.now c.loop-n.n-index (omega arith) in
-    let h = c.loop-n.invariant in
-    grind (arith, nat_tests)
-
-pub loop-n-preserved : goal.loop-n-preserved
-loop-n-preserved c =
-    let e = below_next c.args.limit c.args.nodes.now c.loop-n.n-index (omega arith) in
-    let h = c.loop-n.invariant in
-    grind (arith, nat_tests)
-
 pub returns : goal.returns
-returns c =
-    sym (c.loop-n.invariant ∙ at_drop_all (all_below c.args.limit) c.args.nodes.now c.loop-n.n-index (omega arith))
+returns g c = all_from_yields_List (λ n. ltb (g.T.Numbered.number n) c.args.limit) _ _ _ c.all.ensures.ran (YieldsList-from_slice c.args.list.now (cc)) (λ x b q k. search (rules, tests))

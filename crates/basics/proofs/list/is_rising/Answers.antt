@@ -1,19 +1,9 @@
-use Rattle.std.proofs.Common.{◌-◌, sym, ◌∙◌, arith}
-use Rattle.std.proofs.lemmas.Bool.Decides.{nat_tests}
-use Rattle.basics.proofs.Listing.{rising_step, rising_end}
+use Rattle.std.proofs.Common.{◌≡◌, ltb, rules, tests}
+use Rattle.std.proofs.lemmas.Fn.{always_returns_same}
+use Rattle.basics.proofs.Listing.{rising_answer}
 use Rattle.basics.proofs.list.is_rising.Goals as goal
 
-pub returns-then-nodes-i : goal.returns-then-nodes-i
-returns-then-nodes-i c =
-    let e = rising_step c.args.nodes.now c.loop-i.i (omega arith) (omega arith) in
-    let h = c.loop-i.invariant in
-    grind (arith, nat_tests)
-
-pub loop-i-preserved : goal.loop-i-preserved
-loop-i-preserved c =
-    let e = rising_step c.args.nodes.now c.loop-i.i (omega arith) (omega arith) in
-    let h = c.loop-i.invariant in
-    grind (arith, nat_tests)
-
 pub returns : goal.returns
-returns c = sym (c.loop-i.invariant ∙ rising_end c.args.nodes.now (c.loop-i.i - 1) (omega arith))
+returns g c =
+    let number = g.T.Numbered.number in
+    rising_answer number c.args.list.now _ (c.is_sorted_by.ensures.cases (λ x y. ltb (number x) (number y)) (always_returns_same _ (λ a r. r ≡ ltb (number a.0.now) (number a.1.0.now)) _ (λ a r f k. search (rules, tests))))

@@ -1,9 +1,8 @@
-use Rattle.std.proofs.Common.{◌≡◌, take, drop}
+use Rattle.std.proofs.Common.{◌≡◌, take}
 use Rattle.plans.specs.Meaning.{nodes_of}
 use Rattle.image_model.specs.Fields.{unpacked}
 use Rattle.images.proofs.pack.unpack.Given as goal
 
--- the first n values are read, and all further ones are as they were
+-- the first n values are read
 abbrev pub invariant-loop-n : goal.invariant-loop-n
-invariant-loop-n l =
-    (take l.n l.values ≡ unpacked (nodes_of l.plan) l.image l.n) × (drop l.n l.values ≡ drop l.n l.initial.values)
+invariant-loop-n l = take l.n l.value-items ≡ unpacked (nodes_of l.plan) l.image l.n

@@ -1,4 +1,4 @@
-use Rattle.std.proofs.Common.{◌≡◌, ◌+◌, ◌*◌, ◌≤◌, ◌++◌, map, codes}
+use Rattle.std.proofs.Common.{◌≡◌, ◌+◌, ◌*◌, ◌≤◌, ◌++◌, map, length, codes}
 use Rattle.std.specs.List.{range_with_len, flat_map}
 use Rattle.std.specs.Fmt.{signed_decimal}
 use Rattle.runlines.specs.Lines.{spaced}
@@ -9,4 +9,4 @@ use Rattle.runlines.proofs.lists.write_values.Given as goal
 abbrev pub invariant-loop-n : goal.invariant-loop-n
 invariant-loop-n g l =
     (text l.line ≡ codes "V" ++ flat_map spaced (map (λ k. signed_decimal ((g.S.NodeStore.store l.store).values k)) (range_with_len 0 l.n)))
-    × (l.line.len ≤ 11 + 7 * l.n)
+    × (length (text l.line) ≤ 11 + 7 * l.n)

@@ -1,11 +1,10 @@
 use Rattle.std.proofs.Common.{◌≡◌, ◌++◌, map, take, drop}
-use Rattle.runtext.specs.Left.{pieces_from}
-use Rattle.runtext.specs.Listing.{front}
+use Rattle.runtext.specs.Listing.{listed}
 use Rattle.runtext.proofs.fill.fill.Given as goal
 
-abbrev pub invariant-loop-i : goal.invariant-loop-i
-invariant-loop-i g l =
-    let line = l.line.bytes.now in
-    let ns = front (pieces_from line l.initial.next) in
-    (front (pieces_from line l.next) ≡ drop l.i ns)
-    × (l.out ≡ map g.T.Numbered.numbered (take l.i ns) ++ drop l.i l.initial.out)
+-- the first numbers are filled in
+abbrev pub invariant-loop-place : goal.invariant-loop-place
+invariant-loop-place g l =
+    let ns = listed l.list.from in
+    let k = l.place-index in
+    (listed l.rest ≡ drop k ns) × (l.place-items ≡ map g.T.Numbered.numbered (take k ns) ++ drop k l.initial.place-items)

@@ -1,51 +1,36 @@
-use Rattle.std.proofs.Common.{◌∷◌, Some, sym, ap, ◌∙◌, w32, to_z, of_z}
-use mathlib.Core.Path.{subst⁻¹}
+use Rattle.std.proofs.Common.{None, Some, sym, ap, ◌∙◌}
 use Rattle.runtext_model.specs.Accepting.{is_empty}
-use Rattle.runtext_model.specs.Lines.{node, node_line}
-use Rattle.runtext.specs.Left.{pieces_from, piece_at}
-use Rattle.runtext.specs.Listing.{front}
-use Rattle.runtext.specs.Numerals.{Small}
+use Rattle.runtext_model.specs.Lines.{node}
+use Rattle.runtext.specs.Forming.{said}
+use Rattle.runtext.specs.Left.{pieces_left}
+use Rattle.runtext.specs.Listing.{listed}
 use Rattle.runtext.proofs.Formings.{node_none, node_valueless, node_is, numbers_whole, numbers_cut}
-use Rattle.runtext.proofs.Listings.{same_word, own_list, listed_is}
+use Rattle.runtext.proofs.Listings.{same_word}
 use Rattle.runtext.proofs.form.node_form.Goals as goal
 
-pub returns-in_default : goal.returns-in_default
-returns-in_default c = node_none (pieces_from c.args.line.bytes.now c.args.from) c.in_default.ensures
+pub returns-in_err-width : goal.returns-in_err-width
+returns-in_err-width c = ap said c.from_residual.ensures ∙ sym (node_none (pieces_left c.args.rest) c.in_err-width.ensures)
 
-pub returns-in_default-number_at : goal.returns-in_default-number_at
-returns-in_default-number_at c =
-    let line = c.args.line.bytes.now in
-    let (cuts, is, small) = c.in-Some.ensures in
-    let width = c.in-Some.width in
-    ap node_line cuts.cut ∙ node_valueless (piece_at line c.args.from) (pieces_from line width.next) width.value is c.in_default-number_at.ensures
+pub returns-in_err-value : goal.returns-in_err-value
+returns-in_err-value c =
+    let (first, second, small) = c.in_ok-width.ensures in
+    ap said c.from_residual-in_err-value.ensures ∙ sym (node_valueless (pieces_left c.args.rest) _ second.rest c.in_ok-width.width first c.in_err-value.ensures)
 
-pub returns-then-not-is_end : goal.returns-then-not-is_end
-returns-then-not-is_end c =
-    let line = c.args.line.bytes.now in
-    let (cuts, is, small) = c.in-Some.ensures in
-    let (next, says, few) = c.in-Some-number_at.ensures in
-    let width = c.in-Some.width in
-    let value = c.in-Some-number_at.value in
-    let list = c.list_at-parents.ensures in
-    let cut = sym (ap is_empty list.rest) ∙ sym c.is_end.ensures ∙ c.if-not-is_end.true in
-    ap node_line (cuts.cut ∙ ap (λ ps. piece_at line c.args.from ∷ ps) next.cut)
-    ∙ node_is (piece_at line c.args.from) (piece_at line width.next) (pieces_from line value.next) width.value value.value _ is says (numbers_cut (pieces_from line value.next) cut)
+pub returns-in_err-end : goal.returns-in_err-end
+returns-in_err-end c =
+    let (first, then, few) = c.in_ok-width.ensures in
+    let (second, last, small) = c.in_ok-value.ensures in
+    let (from, rest) = c.list.ensures in
+    let cut = sym (ap is_empty rest) ∙ sym c.in_err-end.ensures in
+    ap said c.from_residual-in_err-end.ensures ∙ sym (node_is (pieces_left c.args.rest) _ _ then.rest last.rest c.in_ok-width.width c.in_ok-value.value None first second (numbers_cut _ cut))
 
 pub returns : goal.returns
+unfolding listed
 returns c =
-    let line = c.args.line.bytes.now in
-    let (cuts, is, small) = c.in-Some.ensures in
-    let (next, says, few) = c.in-Some-number_at.ensures in
-    let width = c.in-Some.width in
-    let value = c.in-Some-number_at.value in
-    let parents = c.list_at-parents.result in
-    let list = c.list_at-parents.ensures in
-    let whole = sym (ap is_empty list.rest) ∙ sym c.is_end.ensures ∙ c.if-not-is_end.false in
-    let same = same_word value.value few in (
-      ap node_line (cuts.cut ∙ ap (λ ps. piece_at line c.args.from ∷ ps) next.cut)
-          ∙ node_is (piece_at line c.args.from) (piece_at line width.next) (pieces_from line value.next) width.value value.value _ is says (numbers_whole (pieces_from line value.next) whole)
-          ∙ ap (λ z. Some (node width.value z (front (pieces_from line value.next)))) (sym same)
-          ∙ ap (λ ns. Some (node width.value (to_z w32 (of_z w32 value.value)) ns)) (listed_is line value.next parents list),
-      own_list line value.next parents list,
-      subst⁻¹ (λ z. Small (Some z)) same few,
-    )
+    let (first, then, few) = c.in_ok-width.ensures in
+    let (second, last, small) = c.in_ok-value.ensures in
+    let (from, rest) = c.list.ensures in
+    let whole = sym (ap is_empty rest) ∙ sym c.in_ok-end.ensures in
+    ap (λ z. Some (node c.in_ok-width.width z (listed c.list.result.0.from))) (same_word c.in_ok-value.value small)
+    ∙ ap (λ r. Some (node c.in_ok-width.width c.in_ok-value.value (listed r))) from
+    ∙ sym (node_is (pieces_left c.args.rest) _ _ then.rest last.rest c.in_ok-width.width c.in_ok-value.value _ first second (numbers_whole _ whole))

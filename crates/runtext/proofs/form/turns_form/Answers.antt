@@ -1,23 +1,20 @@
 use Rattle.std.proofs.Common.{Some, sym, ap, ◌∙◌}
 use Rattle.runtext_model.specs.Accepting.{is_empty}
 use Rattle.runtext_model.specs.Lines.{turns, and_then}
-use Rattle.runtext.specs.Left.{pieces_from}
+use Rattle.runtext.specs.Forming.{said}
+use Rattle.runtext.specs.Left.{pieces_left}
+use Rattle.runtext.specs.Listing.{listed}
 use Rattle.runtext.proofs.Formings.{numbers_whole, numbers_cut}
-use Rattle.runtext.proofs.Listings.{own_list, listed_is}
 use Rattle.runtext.proofs.form.turns_form.Goals as goal
 
-pub returns-then-not-is_end : goal.returns-then-not-is_end
-returns-then-not-is_end c =
-    let ps = pieces_from c.args.line.bytes.now c.args.from in
-    let list = c.list_at-turns.ensures in
-    ap (λ o. and_then o (λ ts. Some (turns ts))) (numbers_cut ps (sym (ap is_empty list.rest) ∙ sym c.is_end.ensures ∙ c.if-not-is_end.true))
+pub returns-in_err-end : goal.returns-in_err-end
+returns-in_err-end c =
+    let (from, rest) = c.list.ensures in
+    ap said c.from_residual.ensures ∙ sym (ap (λ o. and_then o (λ ts. Some (turns ts))) (numbers_cut (pieces_left c.args.rest) (sym (ap is_empty rest) ∙ sym c.in_err-end.ensures)))
 
 pub returns : goal.returns
+unfolding listed
 returns c =
-    let line = c.args.line.bytes.now in
-    let ps = pieces_from line c.args.from in
-    let list = c.list_at-turns.ensures in (
-      ap (λ o. and_then o (λ ts. Some (turns ts))) (numbers_whole ps (sym (ap is_empty list.rest) ∙ sym c.is_end.ensures ∙ c.if-not-is_end.false))
-          ∙ ap (λ ns. Some (turns ns)) (listed_is line c.args.from c.list_at-turns.result list),
-      own_list line c.args.from c.list_at-turns.result list,
-    )
+    let (from, rest) = c.list.ensures in
+    ap (λ r. Some (turns (listed r))) from
+    ∙ sym (ap (λ o. and_then o (λ ts. Some (turns ts))) (numbers_whole (pieces_left c.args.rest) (sym (ap is_empty rest) ∙ sym c.in_ok-end.ensures)))

@@ -1,5 +1,5 @@
 use Rattle.std.proofs.Common.{sym, ◌∙◌}
-use Rattle.runtext.proofs.Numbers.{numeral_sized, numeral_unsized}
+use Rattle.runtext.proofs.Digits.{numeral_sized, numeral_unsized}
 use Rattle.runtext.proofs.number.numeral.Goals as goal
 
 pub returns-then-is_sized : goal.returns-then-is_sized

@@ -1,4 +1,5 @@
-use Rattle.std.proofs.Common.{◌≡◌, ℕ, Option, sym, refl, ap, ◌∙◌, subst, arith}
+use Rattle.std.proofs.Common.{◌≡◌, true, Option, None, Result, Ok, Err, sym, refl, ap, ◌∙◌, subst}
+use Rattle.std.specs.Result.{is_ok}
 use Rattle.basics.specs.declared.refusal.Refusal.{Refusal}
 use Rattle.runtext_model.specs.Description.{Description}
 use Rattle.runtext_model.specs.Pieces.{pieces}
@@ -6,22 +7,16 @@ use Rattle.runtext_model.specs.Reading.{read_lines, read_text}
 use Rattle.runtext_model.specs.Writing.{written}
 use Rattle.runtext_model.proofs.Readings.{text_of_what_is_read}
 use Rattle.runtext_model.proofs.Returns.{canonical}
+use Rattle.runtext.specs.Of.{why}
 use Rattle.runtext.specs.Outcome.{fault_of, fault_unless, Describes, LeftBy}
 use Rattle.runtext.proofs.read.read.Goals as goal
 
-pub returns-in-Some : goal.returns-in-Some
-returns-in-Some c =
-    let o = read_text c.args.text.now in
-    let s = c.args.setup.now in
-    let ss = c.args.steps.now in
-    let ts = c.args.turns.now in
-    let is = c.in-Some.ensures in
-    record {
-      answers = ap (λ r. fault_unless r o) is;
-      leaves = subst (λ (r : Option Refusal). LeftBy r o s s ss ss ts ts) is (refl, refl, refl);
-      text = λ e. (let z : ◌≡◌ {A = ℕ} 0 1 = cc in absurd (omega arith));
-      canonical = canonical;
-    }
+why_ok : (r : Result (Unit {0}) Refusal) → is_ok r ≡ true → why r ≡ None
+why_ok (Ok u) e = refl
+why_ok (Err x) e = cc
+
+pub returns-in_err-map_err-clause-canonical : goal.returns-in_err-map_err-clause-canonical
+returns-in_err-map_err-clause-canonical c = canonical
 
 pub returns : goal.returns
 returns c =
@@ -30,7 +25,7 @@ returns c =
     let s = c.args.setup.now in
     let ss = c.args.steps.now in
     let ts = c.args.turns.now in
-    let is = c.in_default.ensures in
+    let is = sym (why_ok c.unread.result (sym c.map_err.ensures.variant ∙ ap is_ok c.in_ok-map_err.was)) ∙ c.unread.ensures in
     let first = c.new.ensures ss ts in
     let r = c.read_lines.ensures in
     let told = r.answers ∙ ap (λ (d : Description). (read_lines d 1 0 (pieces 10 text)).fault) first in

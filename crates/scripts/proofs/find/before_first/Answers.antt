@@ -1,12 +1,11 @@
-use Rattle.std.proofs.Common.{arith}
-use Rattle.scripts.proofs.Finding.{first_at, not_yet, no_first}
+use Rattle.std.proofs.Common.{◌∙◌, rules, tests}
+use Rattle.std.proofs.lemmas.Iterator.{YieldsList-from_slice}
+use Rattle.std.proofs.lemmas.Iterator.Search.{position_from_yields_List}
+use Rattle.scripts.proofs.Finding.{is_end, before_end_at}
 use Rattle.scripts.proofs.find.before_first.Goals as goal
 
-pub returns-in-End : goal.returns-in-End
-returns-in-End c = first_at c.args.steps.now c.loop-i.i c.loop-i.invariant c.in-End.is
-
-pub loop-i-preserved : goal.loop-i-preserved
-loop-i-preserved c = not_yet c.args.steps.now c.loop-i.i c.loop-i.invariant c.in_default.not-End
-
 pub returns : goal.returns
-returns c = no_first c.args.steps.now c.loop-i.i c.loop-i.invariant (omega arith)
+returns c =
+    let es = c.args.steps.now in
+    let e = position_from_yields_List is_end _ _ c.position.result c.position.ensures.ran (YieldsList-from_slice es (cc)) (λ x b q k. search (rules, tests)) in
+    c.unwrap_or.ensures ∙ before_end_at es c.position.result e

@@ -4,7 +4,7 @@ use Rattle.model.specs.Step.{run}
 use Rattle.session.specs.Of.{model_of}
 use Rattle.scripts.proofs.start.with_begun.Given as goal
 
-abbrev pub invariant-loop-i : goal.invariant-loop-i
-invariant-loop-i g l =
+abbrev pub invariant-loop : goal.invariant-loop
+invariant-loop g l =
     let of = model_of g.R.LockRule.rule g.S.NodeStore.store in
-    of l.session ≡ (run (record { state = of l.initial.session; log = [] }) (replicate l.i begin)).state
+    of l.session ≡ (run (record { state = of l.initial.session; log = [] }) (replicate l.counter begin)).state

@@ -1,19 +1,13 @@
-use Rattle.std.proofs.Common.{◌≡◌, length, sym, ap, ◌∙◌, arith}
-use Rattle.std.proofs.lemmas.List.{length-take-le}
+use Rattle.std.proofs.Common.{◌≤◌, length, sym, ◌∙◌, arith, rules}
+use Rattle.std.proofs.lemmas.List.{length-map}
 use Rattle.plans.specs.Meaning.{nodes_of}
-use Rattle.plans.specs.Nodes.{field_start}
-use Rattle.plans.proofs.Starts.{start_take, start_past}
+use Rattle.plans.specs.Placed.{node_of}
+use Rattle.plans.proofs.Starts.{start_past}
 use Rattle.plans.proofs.plan.Plan.start.Goals as goal
 
-pub returns-then-n-self : goal.returns-then-n-self
-returns-then-n-self c =
+pub returns-in-None : goal.returns-in-None
+returns-in-None c =
     let p = c.args.self.now in
-    let n = c.args.n.0 in
-    p.laid n (omega arith) ∙ sym (start_take p.nodes p.count n (omega arith))
-
-pub returns-else-n-self : goal.returns-else-n-self
-returns-else-n-self c =
-    let p = c.args.self.now in
-    let n = c.args.n.0 in
-    let size : length (nodes_of p) ≡ p.count = length-take-le p.count p.nodes (omega arith) in
-    p.laid p.count (omega arith) ∙ sym (start_past (nodes_of p) n (omega arith) ∙ ap (field_start (nodes_of p)) size ∙ start_take p.nodes p.count p.count (omega arith))
+    let inside : length p.nodes.items ≤ c.args.n.0 = search rules in
+    let past : length (nodes_of p) ≤ c.args.n.0 = omega (arith, length-map p.nodes.items node_of) in
+    c.end.ensures ∙ sym (start_past (nodes_of p) c.args.n.0 past)

@@ -1,7 +1,12 @@
-use Rattle.std.proofs.Common.{Bool, not, ◌&&◌, sym, ap₂, arith}
+use Rattle.std.proofs.Common.{not, ◌&&◌, sym, ap, ◌∙◌, arith}
+use Rattle.std.proofs.lemmas.Bool.{ne_eqb}
+use Rattle.runtext_model.specs.Accepting.{before_turns}
+use Rattle.runtext.specs.Of.{description_of}
 use Rattle.runtext.proofs.Taking.{none_taken}
 use Rattle.runtext.proofs.setup.Setup.takes_steps.Goals as goal
 
-pub returns : goal.returns
-returns c = λ ss ts l s.
-    ap₂ (λ (a b : Bool). not a && b) (sym (none_taken c.args.self.now.steps ss (omega arith))) (c.takes_scripts.ensures ss ts)
+pub returns-then-self-ne0 : goal.returns-then-self-ne0
+returns-then-self-ne0 c = λ ss ts l st.
+    let s = c.args.self.now in
+    c.takes_scripts.ensures ss ts
+    ∙ ap (λ b. not b && before_turns (description_of s ss ts)) (sym (none_taken s.steps ss (omega arith) ∙ ne_eqb s.steps 0 c.if-self-ne0.true))

@@ -1,4 +1,4 @@
-use Rattle.std.proofs.Common.{◌-◌, ap, ◌∙◌}
+use Rattle.std.proofs.Common.{◌-◌, sym, ap, ◌∙◌}
 use Rattle.scripts_model.specs.Schedule.{played}
 use Rattle.scripts.specs.Of.{run_of}
 use Rattle.scripts.proofs.Turning.{goes_on, stops}
@@ -10,7 +10,7 @@ loop-preserved g c =
     let r = c.loop.self in
     let r' = c.advance.new.self in
     let x = c.advance.ensures in (
-      ap (λ n. played (n - r'.taken) (of r')) x.keeps ∙ goes_on (of r) (of r') r.allowance x.leaves _ c.in-Some.ensures.turns ∙ c.loop.invariant.0,
+      ap (λ n. played (n - r'.taken) (of r')) x.keeps ∙ goes_on (of r) (of r') r.allowance x.leaves c.advance.result (sym c.is_some.ensures ∙ c.loop-test.true) x.turns ∙ c.loop.invariant.0,
       x.keeps ∙ c.loop.invariant.1,
     )
 
@@ -21,7 +21,7 @@ returns g c =
     let r' = c.advance.new.self in
     let x = c.advance.ensures in
     record {
-      totals = c.totals_at.ensures r'.steps.now;
-      leaves = stops (of r) (of r') r.allowance x.leaves c.in_default.ensures.turns ∙ c.loop.invariant.0;
+      totals = c.totals.ensures;
+      leaves = stops (of r) (of r') r.allowance x.leaves c.advance.result (sym c.is_some.ensures ∙ c.loop-test.false) x.turns ∙ c.loop.invariant.0;
       keeps = x.keeps ∙ c.loop.invariant.1;
     }

@@ -1,6 +1,0 @@
-use Rattle.std.proofs.Common.{refl}
-use Rattle.basics.proofs.Masks.{empty_members}
-use Rattle.basics.proofs.node.NodeSet.is_empty.Goals as goal
-
-pub returns : goal.returns
-returns c = record { mask = refl; members = empty_members c.args.self.mask }

@@ -1,9 +1,0 @@
-use Rattle.std.proofs.Common.{refl}
-use Rattle.basics.proofs.Masks.{same_members}
-use Rattle.basics.proofs.node.NodeSetPartialEq.eq.Goals as goal
-
-pub returns : goal.returns
-returns c = record {
-  mask = refl;
-  members = same_members c.args.self.now.mask c.args.other.now.mask;
-}
