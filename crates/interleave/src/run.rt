@@ -14,14 +14,13 @@ use runlines::lists::{write_order, write_values};
 use runlines::turns::{write_fault, write_totals, write_turn};
 use runtext::setup::Setup;
 use runtext_model::kind::RuleKind;
+use scripts::start::MOST_TURNS;
 use scripts::state::ScriptRun;
 use scripts_model::limits::{MOST_LISTED, MOST_STEPS};
 use scripts_model::step::Step;
 use std::io;
 use std::io::Write;
 use stores::store::NodeStore;
-
-const ALLOWANCE: u32 = 40_000;
 
 // The rule that the text names.
 fn rule_of(kind: Option<RuleKind>, table: &GuardTable) -> AnyRule<'_> {
@@ -63,13 +62,13 @@ fn start<W: Write>(
     let rule = rule_of(setup.kind, &setup.table);
     let step_count = usize::from(setup.steps);
     let turn_count = setup.turns.map_or(0, usize::from);
-    // By `match`: a closure for `map_err` would take the store, which holds a `&mut`, and the borrow checker does not cover that.
+    // By `match`. Tried with `map_err`: the check refuses a closure over what did not start, since the store in it holds a `&mut`.
     match ScriptRun::start(
         rule,
         store,
         &steps[..step_count],
         &turns[..turn_count],
-        ALLOWANCE,
+        MOST_TURNS,
     ) {
         Ok(run) => Ok(play(run, to)),
         Err(not) => Err(not.refusal),

@@ -7,6 +7,7 @@ use crate::rule::LockRule;
 use crate::tree::TreeRule;
 use basics::node::{NodeNumber, NodeSet};
 
+// Each method asks the rule that it is, by a `match`: the three are all there are, and a `dyn LockRule` would need a pointer to code.
 #[derive(Clone, Copy, Drop)]
 pub enum AnyRule<'p> {
     Tree(TreeRule<'p>),

@@ -19,7 +19,7 @@ fn only_held(parents: NodeSet, held: NodeSet) -> bool
     parents.size() == 1 && parents.is_subset(held)
 }
 
-// Of one form with the majority rule, which says why.
+// Of one form with the majority rule; why there is no trait for both stands there.
 impl LockRule for TreeRule<'_> {
     ghost rule = { λ s. tree_rule s.plan.now };
 

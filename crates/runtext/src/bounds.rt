@@ -1,4 +1,5 @@
-// How many nodes, steps and turns a run text may have. Other limits stand in one place, and clauses have the numbers bare.
+// How many nodes, steps and turns a run text may have. A run of scripts has limits of its own, though the same: a format
+// stays as it is where a run may grow. Clauses have the numbers bare.
 pub(crate) const NODES: usize = 64;
 
 pub(crate) const STEPS: u16 = 1024;

@@ -15,7 +15,7 @@ use crate::word::Word;
 fn said_after<'a>(letter: char, rest: Rest<'a>) -> Option<Line<'a>>
     ensures { said result ≡ form letter (pieces_left rest.entry) }
 {
-    // `map(Line::Step)` is not covered: a line names the lifetime of its text, and what is mapped does not.
+    // Tried with `map(Line::Step)`: the check refuses it, since a line names the lifetime of its text, and what is mapped does not.
     match letter {
         'M' => rule_form(rest),
         'N' => node_form(rest),

@@ -35,6 +35,7 @@ impl<'a> Rest<'a> {
         ensures { ListFound self.entry result }
     {
         let mut rest = self;
+        // Counted by hand: each number is read from what the one before it leaves.
         let mut count = 0;
         let mut limit: u32 = 0;
         while let Some((n, next)) = rest.plain() {

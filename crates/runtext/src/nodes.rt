@@ -27,7 +27,7 @@ use rules::guard::GuardTable;
 fn is_field(width: u32, value: i32) -> bool
     ensures { result ≡ (good_width width && fits width value) }
 {
-    // Tried: with `(2..=16).contains(&width)` the search for `returns` gave up.
+    // Tried with `(2..=16).contains(&width)`: what the function answers was then not proved.
     if width < 2 || width > 16 {
         return false;
     }
@@ -35,7 +35,8 @@ fn is_field(width: u32, value: i32) -> bool
     (-half..half).contains(&value)
 }
 
-// Whether there is room for one more guard, and only nodes of the plan are named.
+// Whether there is room for one more guard, and only nodes of the plan are named. The guard table's own test takes lists of
+// nodes, and these are still numbers of a line.
 fn in_limits(table: &GuardTable, form: GuardForm) -> bool
     ensures { result ≡ in_limits (nodes_of table.now.plan) (guards_of table.now) (node_number form.entry.node) (map node_number (listed form.entry.a.from)) (map node_number (listed form.entry.b.from)) }
 {

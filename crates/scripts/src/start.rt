@@ -20,7 +20,8 @@ use scripts_model::step::Step;
 use session::state::Session;
 use stores::store::NodeStore;
 
-const MOST_TURNS: u32 = 40_000;
+// The greatest allowance.
+pub const MOST_TURNS: u32 = 40_000;
 
 // Why a run did not start, and what it would have owned, as it was given.
 #[derive(Drop)]

@@ -17,7 +17,7 @@ pub enum Reply {
 // A reply, or the cause of the refusal.
 pub type Answer = Result<Reply, Refusal>;
 
-// By hand: `==` of answers promises the clause `same`, and a derive cannot carry a clause.
+// By hand: `==` promises `same` by a clause of its own; derived, it would need a method beside it to carry that.
 impl PartialEq for Reply {
     ghost eq = { equal_replies };
 

@@ -20,7 +20,8 @@ impl<R: LockRule, S: NodeStore> Session<R, S> {
         self.records[..n].iter().filter(|row| waits(row)).count() as u8
     }
 
-    // Fills in each waiting transaction and its node, two bytes for each, and answers how many they are.
+    // Fills in each waiting transaction and its node, two bytes for each, and answers how many they are. The caller lends the
+    // buffer, since nothing is allocated.
     pub fn waiting(&self, buffer: &mut [u8]) -> Result<u8, Refusal>
         ensures answers { result ≡ answer_unless (short (length buffer.old) (2 * waiting_count (model_of R.rule S.store self.now))) (waiting_count (model_of R.rule S.store self.now)) }
         ensures leaves { WaitingFilled (short (length buffer.old) (2 * waiting_count (model_of R.rule S.store self.now))) (model_of R.rule S.store self.now) buffer.old buffer.new }
