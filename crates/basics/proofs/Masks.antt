@@ -1,5 +1,5 @@
 -- Laws of masks as sets, over any width.
-use Rattle.std.proofs.Common.{◌≡◌, ℕ, zero, suc, ◌+◌, ◌-◌, ◌*◌, ◌/◌, ◌%◌, ◌^◌, ◌<◌, ◌≤◌, min, max, Bool, true, false, not, ◌&&◌, ◌||◌, eqb, ltb, leb, ◌⊎◌, ◌↔◌, sym, refl, ap, ◌∙◌, inl, inr, mul_assoc, pow-suc, div-one, one-add, arith, pow_pos, pow_mono, pow-add, shr-shr}
+use Rattle.std.proofs.Common.{◌≡◌, ℕ, zero, suc, ◌+◌, ◌-◌, ◌*◌, ◌/◌, ◌%◌, ◌^◌, ◌<◌, ◌≤◌, min, max, Bool, true, false, not, ◌&&◌, ◌||◌, eqb, ltb, leb, ◌⊎◌, ◌↔◌, sym, refl, ap, ◌∙◌, inl, inr, mul_assoc, pow-suc, div-one, arith, pow_pos, pow_mono, pow-add, shr-shr}
 use native.Mathlib.Nat.{zero-div, div-eq_of_lt, div_self}
 use lib.Bits.{bit_and, bit_or, and_mask, or_shr, and_shr, or_step, and_step, or_lt, and_le_l}
 use lib.Pow.{pow-lt, shl-shr}
@@ -7,6 +7,7 @@ use lib.Count.{ones, ones_step, ones-le}
 use Rattle.std.proofs.lemmas.Nat.{one_shl, or_disjoint}
 use Rattle.std.proofs.lemmas.Bool.{cases_eq, cases_lt, cases_order, cases_Bool, eqb-true, eq-eqb, lt-ltb, le-ltb, cond-true, cond-false, cond_below, and_right, and_from, and_parts, ne_eqb, eqb-false, not-true, not_from_false, both_ways, or_cases, or_left, or_right, cond_both}
 use Rattle.std.proofs.lemmas.Bool.Decides.{nat_tests}
+use Rattle.basics.specs.Alike.{half_bit, same_masks, masks_alike}
 use Rattle.basics.specs.Sets.{has, with_member, without_member, within, meets, counted}
 
 -- bit n of a mask
@@ -27,9 +28,6 @@ has_and a b n = let h = and_bit a b n in grind (arith, nat_tests)
 
 pub has_none : (n : ℕ) → has 0 n ≡ false
 has_none n = let h = zero-div (2 ^ n) in grind (arith, nat_tests)
-
-half_bit : (m n : ℕ) → bit m (suc n) ≡ bit (m / 2) n
-half_bit m n = ap (λ x. x % 2) (sym (rw one-add at (shr-shr m 1 n)))
 
 -- numbers at or past the width are no members
 pub has_past : (w m n : ℕ) → m < 2 ^ w → w ≤ n → has m n ≡ false
@@ -54,22 +52,9 @@ has_one n k = elim (cases_order k n) [
   | inr (inr l) ↦ let z : 2 ^ n / 2 ^ k ≡ 0 = div-eq_of_lt (pow-lt l) in grind (arith, nat_tests)
 ]
 
-ext_within : (f a b : ℕ) → a + b < f → ((n : ℕ) → bit a n ≡ bit b n) → a ≡ b
-ext_within zero a b h e = absurd (omega arith)
-ext_within (suc f) a b h e = elim (cases_eq (a + b) 0) [
-  | inl q ↦ omega arith
-  | inr g ↦
-      let low : a % 2 ≡ b % 2 = ap (λ x. x % 2) (sym (div-one a)) ∙ e 0 ∙ ap (λ x. x % 2) (div-one b) in
-      let high : a / 2 ≡ b / 2 = ext_within f (a / 2) (b / 2) (omega (arith, g)) (λ n. sym (half_bit a n) ∙ e (suc n) ∙ half_bit b n) in
-      omega arith
-]
-
-bit_from_has : (a b n : ℕ) → has a n ≡ has b n → bit a n ≡ bit b n
-bit_from_has a b n e = grind (arith, nat_tests)
-
 -- sets with the same members are equal
 pub has_ext : (a b : ℕ) → ((n : ℕ) → has a n ≡ has b n) → a ≡ b
-has_ext a b e = ext_within (suc (a + b)) a b (omega arith) (λ n. bit_from_has a b n (e n))
+has_ext = same_masks
 
 -- a set without members is 0
 pub has_empty : (m : ℕ) → ((n : ℕ) → has m n ≡ false) → m ≡ 0
@@ -132,7 +117,7 @@ counted_ones (suc w) m h =
     omega (arith, counted_half m w, counted_ones w (m / 2) (omega arith), ones_step m)
 
 pub same_members : (a b : ℕ) → (eqb a b ≡ true) ↔ ((k : ℕ) → has a k ≡ has b k)
-same_members a b = (λ e k. ap (λ m. has m k) (eqb-true a b e), λ f. eq-eqb a b (has_ext a b f))
+same_members = masks_alike
 
 -- a new member makes the mask larger
 pub with_larger : (w m n : ℕ) → n < w → has m n ≡ false → m < with_member w m n
@@ -293,6 +278,11 @@ cleared v w m n h le fits = has_ext _ _ (λ k. rw (has_and, has_and, has_clear v
 pub shifted_without : (v w m n : ℕ) → n < w → w ≤ v → m < 2 ^ w → bit_and m (2 ^ v - 1 - (1 * 2 ^ n) % 2 ^ v) ≡ without_member w m n
 shifted_without v w m n h le fits =
     ap (λ x. bit_and m (2 ^ v - 1 - x)) (one_shl n v (omega arith)) ∙ cleared v w m n h le fits ∙ cond_below n w (bit_and m (2 ^ w - 1 - 2 ^ n)) m h
+
+-- the same of any mask, where the program has as many bits as the set
+pub shifted_without_own : (w m n : ℕ) → n < w → bit_and m (2 ^ w - 1 - (1 * 2 ^ n) % 2 ^ w) ≡ without_member w m n
+shifted_without_own w m n h =
+    ap (λ x. bit_and m (2 ^ w - 1 - x)) (one_shl n w h) ∙ cond_below n w (bit_and m (2 ^ w - 1 - 2 ^ n)) m h
 
 -- the members of a that are none of b, as a program of v bits computes them: `a & !b`
 pub has_minus : (v a b k : ℕ) → a < 2 ^ v → b < 2 ^ v → has (bit_and a (2 ^ v - 1 - b)) k ≡ (has a k && not (has b k))

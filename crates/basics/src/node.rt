@@ -1,5 +1,6 @@
 // The number of a node, and sets of nodes.
 ghost use Rattle.std.proofs.Common.{rules};
+ghost use Rattle.basics.specs.Alike.{masks_alike};
 
 use crate::number::Numbered;
 use crate::set::NumberSet;
@@ -42,6 +43,8 @@ impl NumberSet for NodeSet {
     ghost narrow = { Prim.search rules };
 
     ghost equal = { Prim.search rules };
+
+    ghost alike = { λ a b. masks_alike a.mask b.mask };
 
     const WIDTH: u8 = 64;
 

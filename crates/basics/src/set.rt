@@ -24,10 +24,13 @@ pub trait NumberSet: Copy + Eq {
     fn of_bits(bits: u64) -> Self
         ensures { mask result ≡ bits % 2 ^ WIDTH };
 
-    // What each kind of set proves: a mask fits 64 bits, and sets are equal where their masks are.
+    // What each kind of set proves: a mask fits 64 bits, and sets are equal where their masks are, which is where they have
+    // the same members.
     ghost narrow: { WIDTH ≤ 64 };
 
     ghost equal: { (a b : Self) → Self.eq a b ≡ (mask a == mask b) };
+
+    ghost alike: { (a b : Self) → (Self.eq a b ≡ true) ↔ ((k : ℕ) → has (mask a) k ≡ has (mask b) k) };
 
     final fn empty() -> Self
         ensures mask { mask result ≡ 0 }

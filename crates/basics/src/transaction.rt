@@ -1,5 +1,6 @@
 // The number of a transaction, and sets of transactions.
 ghost use Rattle.std.proofs.Common.{rules};
+ghost use Rattle.basics.specs.Alike.{masks_alike};
 
 use crate::number::Numbered;
 use crate::set::NumberSet;
@@ -41,6 +42,8 @@ impl NumberSet for TransactionSet {
     ghost narrow = { Prim.search rules };
 
     ghost equal = { Prim.search rules };
+
+    ghost alike = { λ a b. masks_alike a.mask b.mask };
 
     const WIDTH: u8 = 32;
 

@@ -6,6 +6,8 @@ ghost use Rattle.std.specs.Prelude.{◌≡◌, ℕ, Bool};
 ghost use Rattle.basics.specs.Sets.{has};
 ghost use Rattle.graph.specs.Walks.{Reached};
 
+use basics::node::{NodeNumber, NodeSet};
+use basics::number::Numbered;
 use basics::set::NumberSet;
 
 pub trait Graph {
@@ -31,4 +33,30 @@ pub fn reach<G: Graph>(graph: &G, start: G::Points) -> G::Points
         seen = seen.union(graph.successors(i));
     }
     seen
+}
+
+// A graph over all points 0 to 63, whatever set the graph within names. A set of nodes stands for any 64 points here.
+#[derive(Drop)]
+struct Wide<'g, G> {
+    graph: &'g G,
+}
+
+impl<G: Graph> Graph for Wide<'_, G> {
+    type Points = NodeSet;
+
+    ghost edge = { λ w. G.edge w.graph.now };
+
+    fn successors(&self, point: NodeNumber) -> NodeSet {
+        let point = <G::Points as NumberSet>::Number::of_number(point.number());
+        NodeSet {
+            mask: self.graph.successors(point).bits(),
+        }
+    }
+}
+
+// As `reach`, from a mask of any 64 points to another: the graph's own set may be narrower.
+pub fn reach_mask<G: Graph>(graph: &G, start: u64) -> u64
+    ensures { Reached (G.edge graph.now) start result }
+{
+    reach(&Wide { graph }, NodeSet { mask: start }).mask
 }

@@ -1,8 +1,8 @@
 -- Two's complement there and back.
-use Rattle.std.proofs.Common.{◌≡◌, ℕ, suc, ◌-◌, ◌^◌, ◌<◌, ◌≤◌, true, false, ltb, leb, ℤ, pos, negsuc, ◌-ℤ◌, nat_abs, ap, ◌∙◌, inl, inr, arith, pow_pos}
+use Rattle.std.proofs.Common.{◌≡◌, ℕ, suc, ◌-◌, ◌^◌, ◌<◌, ◌≤◌, true, false, ltb, leb, ℤ, pos, negsuc, ◌-ℤ◌, nat_abs, refl, ap, ◌∙◌, inl, inr, arith, pow_pos}
 use lib.Signed.{le_z}
 use Rattle.std.proofs.lemmas.Int.{ints}
-use Rattle.std.proofs.lemmas.Bool.{and_parts, leb-true, lt-ltb, le-ltb, cond-true, cond-false, cases_lt, le-leb, both_ways}
+use Rattle.std.proofs.lemmas.Bool.{and_parts, leb-true, lt-ltb, le-ltb, cond-true, cond-false, cases_lt, and_from, le-leb, both_ways}
 use Rattle.image_model.specs.Image.{signed, bits_of, lowest}
 use Rattle.image_model.specs.Fields.{fits}
 use Rattle.image_model.specs.ImageLaws.{double}
@@ -39,6 +39,20 @@ signed_bits w u h l = elim (cases_lt u (2 ^ (w - 1))) [
   | inr high ↦
       ap (bits_of w) (cond-false (ltb u (2 ^ (w - 1))) (pos u) _ (le-ltb u (2 ^ (w - 1)) high) ∙ below_nought u (2 ^ w) l) ∙ omega arith
 ]
+
+-- a field's value fits the field
+pub signed_fits : (w u : ℕ) → 2 ≤ w → u < 2 ^ w → fits w (signed w u) ≡ true
+signed_fits w u h l = elim (cases_lt u (2 ^ (w - 1))) [
+  | inl low ↦
+      ap (fits w) (cond-true (ltb u (2 ^ (w - 1))) (pos u) _ (lt-ltb u (2 ^ (w - 1)) low))
+      ∙ and_from _ _ (ap (λ z. le_z z (pos u)) least) (le-leb u (2 ^ (w - 1) - 1) (omega arith))
+  | inr high ↦
+      ap (fits w) (cond-false (ltb u (2 ^ (w - 1))) (pos u) _ (le-ltb u (2 ^ (w - 1)) high) ∙ below_nought u (2 ^ w) l)
+      ∙ and_from _ _ (ap (λ z. le_z z (negsuc (2 ^ w - u - 1))) least ∙ le-leb (2 ^ w - u - 1) (2 ^ (w - 1) - 0 - 1) (omega (arith, double w h))) refl
+]
+  where
+    least : lowest w ≡ negsuc (2 ^ (w - 1) - 0 - 1)
+    least = below_nought 0 (2 ^ (w - 1)) (pow_pos (w - 1))
 
 -- a negative number of w bits is not below −2^w
 pub negative_small : (w : ℕ) (z : ℤ) → 2 ≤ w → le_z (pos 0) z ≡ false → fits w z ≡ true → nat_abs z ≤ 2 ^ w

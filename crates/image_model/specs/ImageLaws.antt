@@ -1,13 +1,16 @@
 -- An image is a lawful store: proofs only, nothing here has to be believed.
-use Rattle.std.specs.Prelude.{◌≡◌, ℕ, zero, suc, ◌+◌, ◌-◌, ◌*◌, ◌^◌, ◌<◌, ◌≤◌, Bool, true, false, cond, List, [], ◌∷◌, length, ℤ, pos, ◌-ℤ◌, nat_le, nat_lt}
+use Rattle.std.specs.Prelude.{◌≡◌, ℕ, zero, suc, ◌+◌, ◌-◌, ◌*◌, ◌^◌, ◌<◌, ◌≤◌, Bool, true, false, cond, List, [], ◌∷◌, length, ℤ, pos, ◌-ℤ◌, nat_le, nat_lt, slice_index_or}
 use Rattle.std.proofs.Common.{sym, ◌∙◌, ap, subst, inl, inr, pow-suc, arith, pow_mono}
 use Rattle.std.specs.Int.Signed.{le_z_yes}
 use Rattle.std.proofs.lemmas.Int.{ints}
+use Rattle.std.proofs.lemmas.List.{length-map}
+use Rattle.std.proofs.Math.ListN.{get_or-map}
 use Rattle.std.proofs.lemmas.Bool.{cases_Bool, cases_lt, cond-true, cond-false, cond_both, ltb-true, le-ltb, lt-ltb}
 use Rattle.plans.specs.declared.plan.Node.{Node}
 use Rattle.plans.specs.declared.plan.Plan.{Plan}
 use Rattle.plans.specs.Meaning.{nodes_of}
 use Rattle.plans.specs.Nodes.{node_at, field_start}
+use Rattle.plans.specs.Placed.{node_of, not_placed}
 use Rattle.stores.specs.Store.{Small, Lawful}
 use Rattle.image_model.specs.Image.{image_bit, number, signed, lowest, highest}
 use Rattle.image_model.specs.Fields.{field_value, leading, or_zero, image_store}
@@ -52,6 +55,13 @@ highest_small w s = let top = half w s in (omega (arith, ints), omega (arith, in
 
 zero_small : Small (pos 0)
 zero_small = (le_z_yes tt, le_z_yes tt)
+
+-- what holds of the width of each node that a plan keeps holds of each node's width
+pub plan_width : (P : ℕ → Type 0) (p : Plan) → ((n : ℕ) → n < length p.nodes.items → P (slice_index_or p.nodes.items n not_placed).width) → (n : ℕ) → n < length (nodes_of p) → P (node_at (nodes_of p) n).width
+plan_width P p h n l =
+    let same : (node_at (nodes_of p) n).width ≡ (slice_index_or p.nodes.items n not_placed).width = ap (λ x. x.width) (get_or-map node_of p.nodes.items n not_placed) in
+    let below : n < length p.nodes.items = omega (arith, length-map p.nodes.items node_of) in
+    subst P (sym same) (h n below)
 
 pub plan_wide : (p : Plan) (n : ℕ) → n < length (nodes_of p) → 2 ≤ (node_at (nodes_of p) n).width
 plan_wide p = p.wide

@@ -3,7 +3,7 @@ ghost use Rattle.plan_tests.specs.Ring.{ring_edge};
 use basics::node::{NodeNumber, NodeSet};
 use basics::refusal::Refusal;
 use basics::set::NumberSet;
-use graph::{Graph, reach};
+use graph::{Graph, reach, reach_mask};
 use plans::plan::Plan;
 use std::test::Fail;
 
@@ -123,4 +123,10 @@ fn ends_in_a_loop(rt: HostRuntime) {
     assert_eq!(rt; reached(1 << 63), 1 << 63);
     assert_eq!(rt; reached(8), 8);
     assert_eq!(rt; reached(0), 0);
+}
+
+#[test]
+fn reaches_from_a_mask(rt: HostRuntime) {
+    assert_eq!(rt; reach_mask(&Ring, (1 << 63) | 2), (1 << 63) | 7);
+    assert_eq!(rt; reach_mask(&Ring, 0), 0);
 }

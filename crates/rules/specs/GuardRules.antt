@@ -1,20 +1,28 @@
 -- The guard rule of a table.
-use Rattle.std.specs.Prelude.{◌≡◌, ℕ, true, not, ◌==◌, All, Contains}
-use Rattle.std.proofs.Common.{sym, ◌∙◌, subst, inl, inr}
+use Rattle.std.specs.Prelude.{◌≡◌, ℕ, suc, ◌<◌, true, not, List, [], ◌∷◌, length, ◌==◌, All, Contains, slice_index_or}
+use Rattle.std.proofs.Common.{sym, ◌∙◌, subst, inl, inr, arith}
 use Rattle.std.proofs.lemmas.List.Elements.{All-contains}
 use Rattle.std.proofs.lemmas.List.Folds.{Any-from_list_any}
-use Rattle.std.proofs.lemmas.Bool.{and_parts, or_cases, eqb-true, eqb-false, not-true}
+use Rattle.std.proofs.lemmas.Bool.{and_parts, or_cases, eqb-true, eqb-false, not-true, false≢true}
 use Rattle.basics.specs.Sets.{has, within}
 use Rattle.basics.proofs.Masks.{within_members, meets_members}
 use Rattle.plans.specs.Meaning.{nodes_of}
 use Rattle.rules.specs.declared.guard.Guard.{Guard}
 use Rattle.rules.specs.declared.guard.GuardTable.{GuardTable}
-use Rattle.rules.specs.Guards.{admits, some_admits, crosses, fits}
+use Rattle.rules.specs.Guards.{no_guard, admits, some_admits, crosses, fits}
 use Rattle.rules.specs.Locking.{guard_allows}
 use Rattle.rules.specs.Meaning.{guards_of}
 use Rattle.rules.specs.Parents.{parents_in}
 use Rattle.rules.specs.Rule.{Rule}
 use Rattle.rules.specs.Ruling.{Intersects, rule_by}
+
+-- the place of a guard that admits
+pub which : (n locked held : ℕ) (gs : List Guard) → some_admits n locked held gs ≡ true → (i : ℕ) × (i < length gs) × (admits (slice_index_or gs i no_guard) n locked held ≡ true)
+which n locked held [] t = absurd (false≢true t)
+which n locked held (g ∷ gs) t = elim (or_cases (admits g n locked held) _ t) [
+  | inl here ↦ (0, omega arith, here)
+  | inr later ↦ let (i, l, e) = which n locked held gs later in (suc i, omega arith, e)
+]
 
 -- the guard of the table that admits
 which_guard : (t : GuardTable) (n locked held : ℕ) → some_admits n locked held (guards_of t) ≡ true → (g : Guard) × Contains (guards_of t) g × (admits g n locked held ≡ true)

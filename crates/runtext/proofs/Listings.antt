@@ -1,33 +1,16 @@
 -- Numbers and lists of numbers, piece by piece.
-use Rattle.std.proofs.Common.{◌≡◌, ℕ, ◌<◌, Bool, true, false, cond, List, [], ◌∷◌, length, drop, ℤ, pos, negsuc, nat_abs, ◌≤ℤ◌, Some, None, Option, sym, refl, ap, ◌∙◌, ap₂, arith, w32, to_z, of_z}
+use Rattle.std.proofs.Common.{◌≡◌, ℕ, ◌<◌, true, false, List, [], ◌∷◌, length, drop, ℤ, pos, negsuc, nat_abs, ◌≤ℤ◌, Some, None, Option, sym, refl, ap, ap₂, arith, w32, to_z, of_z}
 use lib.Signed.{lt_z}
 use Rattle.std.proofs.lemmas.Int.{ints}
-use Rattle.runtext_model.specs.Lines.{and_then, as_number, unsigned}
-use Rattle.runtext_model.specs.Words.{Word, slash, number_value, is_number, word_of}
+use Rattle.runtext_model.specs.Lines.{and_then, unsigned}
+use Rattle.runtext_model.specs.Words.{slash}
 use Rattle.runtext.specs.declared.part.Part.{Part}
 use Rattle.runtext.specs.declared.word.Word.TheVariants.{Letter, Number, Slash}
 use Rattle.runtext.specs.declared.word.Word as program
 use Rattle.runtext.specs.declared.numbers.Numbers.{Numbers}
-use Rattle.runtext.specs.Finding.{first_word}
 use Rattle.runtext.specs.Listing.{number_in, plain_in, first_number, first_plain, front, behind, listed, above}
 use Rattle.runtext.specs.Meaning.{means}
-use Rattle.runtext.specs.Numerals.{number_read, Small}
-
--- no word is no number
-pub no_number : (ps : List (List ℕ)) → first_word ps ≡ None → first_number ps ≡ None
-unfolding number_in
-no_number [] e = refl
-no_number (p ∷ ps) e = ap as_number e
-
--- a word that is no number
-pub other_word : (w : program.Word) → ((p : Part) → w ≡ Number p → ⊥) → as_number (Some (means w)) ≡ None
-other_word (Letter p) f = refl
-other_word (Number p) f = absurd (f p refl)
-other_word (Slash p) f = refl
-
-pub number_is : (p : List ℕ) (o : Option Word) → word_of p ≡ o → number_in p ≡ as_number o
-unfolding number_in
-number_is p o e = ap as_number e
+use Rattle.runtext.specs.Numerals.{Small}
 
 -- a number without a minus
 pub plain_is : (ps : List (List ℕ)) (z : ℤ) → first_number ps ≡ Some z → first_plain ps ≡ unsigned z
@@ -61,16 +44,6 @@ front_none (p ∷ ps) e = (
   ap (λ (o : Option ℕ). elim o as (λ _. List ℕ) [ None ↦ [] | Some m ↦ m ∷ front ps ]) e,
   ap (λ (o : Option ℕ). elim o as (λ _. List (List ℕ)) [ None ↦ p ∷ ps | Some m ↦ behind ps ]) e,
 )
-
--- a word that is a number says what its bytes read as
-pub read_number : (w : program.Word) (p : Part) → w ≡ Number p → (z : ℤ) → number_read p.bytes.now ≡ Some z → as_number (Some (means w)) ≡ Some z
-unfolding number_read
-read_number w p e z r =
-    ap (λ v. as_number (Some (means v))) e ∙ go (is_number p.bytes.now) r
-  where
-    go : (b : Bool) → cond b (Some (number_value p.bytes.now)) None ≡ Some z → Some (number_value p.bytes.now) ≡ Some z
-    go true r = r
-    go false r = cc
 
 pub from_zero : (z : ℤ) → lt_z z (pos 0) ≡ false → z ≤ℤ pos 99999 → (unsigned z ≡ Some (nat_abs z)) × (nat_abs z < 100000)
 from_zero (pos n) t h = (refl, omega (arith, ints))

@@ -3,6 +3,8 @@ use Rattle.std.proofs.Common.{◌≡◌, ℕ, ◌<◌, ◌≤◌, Bool, true, fa
 use Rattle.std.proofs.lemmas.Bool.{cases_lt, lt-leb, and_left, and_right, ne_eqb}
 use Rattle.std.specs.Option.{is_some}
 use Rattle.runtext_model.specs.Words.{Word, letter, number, slash, is_capital, is_number, number_value, is_single, word_of}
+use Rattle.runtext_model.specs.Lines.{as_number}
+use Rattle.runtext.specs.Listing.{number_in}
 use Rattle.runtext.specs.Numerals.{number_read}
 
 -- whether some number was read
@@ -23,6 +25,17 @@ not_capital b h = elim (cases_lt b 65) [
 -- by its tests
 abbrev chosen : List ℕ → Bool → Bool → Bool → Option Word
 chosen bs n l s = cond n (Some (number (number_value bs))) (cond l (Some (letter (get_or bs 0 0))) (cond s (Some slash) None))
+
+-- the number that a piece is, as a word, is the number that its bytes write
+pub number_reads : (bs : List ℕ) → number_in bs ≡ number_read bs
+unfolding number_in number_read
+number_reads bs = go (is_number bs) (is_single is_capital bs) (is_single (λ b. eqb b 47) bs)
+  where
+    go : (n l s : Bool) → as_number (chosen bs n l s) ≡ cond n (Some (number_value bs)) None
+    go true l s = refl
+    go false true s = refl
+    go false false true = refl
+    go false false false = refl
 
 pub word_number : (bs : List ℕ) → is_number bs ≡ true → word_of bs ≡ Some (number (number_value bs))
 word_number bs t = ap (λ n. chosen bs n (is_single is_capital bs) (is_single (λ b. eqb b 47) bs)) t

@@ -5,17 +5,14 @@ ghost use Rattle.runtext.specs.Lists.{ListFound};
 use crate::number::number;
 use crate::numbers::Numbers;
 use crate::piece::Rest;
-use crate::word::Word;
 
 impl<'a> Rest<'a> {
     // The number that stands first, and what is left after it.
     pub(crate) fn number(self) -> Option<(i32, Rest<'a>)>
         ensures { NumberFound self.entry result }
     {
-        let (word, rest) = self.word()?;
-        let Word::Number(part) = word else {
-            return None;
-        };
+        // Not by `word`, which reads a number too, to tell the words apart.
+        let (part, rest) = self.piece()?;
         Some((number(part.bytes)?, rest))
     }
 

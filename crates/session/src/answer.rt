@@ -1,6 +1,6 @@
 // What a session answers.
 ghost use Rattle.std.specs.Prelude.{◌≡◌, true, ◌↔◌};
-ghost use Rattle.session.specs.Equal.{SameReply, equal_replies};
+ghost use Rattle.session.specs.Equal.{SameReply, equal_replies, SameAnswer, equal_answers};
 ghost use Rattle.std.specs.Cmp.Rules.{comparing};
 ghost use Rattle.std.proofs.Common.{rules};
 
@@ -33,4 +33,12 @@ impl PartialEq for Reply {
             _ => false,
         }
     }
+}
+
+// Whether two answers are the same, which is what `==` says.
+pub fn same_answers(a: Answer, b: Answer) -> bool
+    ensures test { result ≡ equal_answers a b }
+    ensures same { (result ≡ true) ↔ SameAnswer a b }
+{
+    a == b
 }

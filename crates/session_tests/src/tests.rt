@@ -2,10 +2,11 @@ use basics::node::NodeNumber;
 use basics::refusal::Refusal;
 use basics::set::NumberSet;
 use basics::transaction::{TransactionNumber, TransactionSet};
+use graph::reach_mask;
 use plans::plan::Plan;
 use rules::rule::LockRule;
 use rules::tree::TreeRule;
-use session::answer::{Answer, Reply};
+use session::answer::{Answer, Reply, same_answers};
 use session::state::Session;
 use std::process::Abort;
 use std::test::Fail;
@@ -396,4 +397,24 @@ fn serial_order<R: LockRule, S: NodeStore>(rt: &impl Abort, session: &mut Sessio
 #[test]
 fn reports_the_serial_order(rt: HostRuntime) -> Result<(), Fail> {
     tried(|session| serial_order(&rt, session))
+}
+
+#[test]
+fn reaches_past_its_transactions(rt: HostRuntime) -> Result<(), Fail> {
+    tried(|session| {
+        let all = session.predecessors();
+        assert_eq!(rt; reach_mask(&all, 1 << 40), 1 << 40);
+    })
+}
+
+#[test]
+fn tells_answers_apart(rt: HostRuntime) {
+    let three = Ok(Reply::Done(3));
+    assert!(rt; same_answers(three, three));
+    assert!(rt; !same_answers(three, DONE), "another number");
+    assert!(rt;
+        !same_answers(three, Ok(Reply::Waiting(TransactionNumber(3)))),
+        "done and waiting"
+    );
+    assert!(rt; !same_answers(Err(Refusal::NotHeld), Err(Refusal::NotWaiting)));
 }
