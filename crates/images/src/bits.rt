@@ -1,5 +1,5 @@
 // Runs of up to 16 bits in a row of bytes, by shift and mask.
-ghost use Rattle.std.specs.Prelude.{◌≡◌, ℕ, ◌+◌, ◌-◌, ◌*◌, ◌%◌, ◌^◌, ◌<◌, ◌≤◌, ◌&&◌, length, if◌then◌else◌, nat_lt};
+ghost use Rattle.std.specs.Prelude.{◌≡◌, ℕ, ◌+◌, ◌-◌, ◌*◌, ◌/◌, ◌%◌, ◌^◌, ◌<◌, ◌≤◌, ◌&&◌, length, if◌then◌else◌, nat_lt};
 ghost use Rattle.basics.specs.Sets.{has};
 ghost use Rattle.image_model.specs.Image.{image_bit, number, with_field};
 
@@ -16,6 +16,14 @@ pub(crate) fn spare_after(end: usize) -> u8
     ensures { result ≡ (8 - end % 8) % 8 }
 {
     ((8 - end % 8) % 8) as u8
+}
+
+// The `take` bits of a number that stand above its lowest `shift` bits.
+fn piece_of(whole: u32, shift: usize, take: usize) -> u32
+    requires { shift + take ≤ 16 }
+    ensures { result ≡ (whole / 2 ^ shift) % 2 ^ take }
+{
+    (whole >> shift) % (1 << take)
 }
 
 // The eight bits of a number above its lowest `shift` bits.
@@ -40,12 +48,17 @@ pub(crate) fn read_bits(image: &[u8], at: u16, width: u8) -> u32
     ensures { result ≡ number (image_bit image.now) at width }
 {
     let end = usize::from(at) + usize::from(width);
-    let spare = spare_after(end);
-    let mut whole = 0;
+    let mut from = usize::from(at);
+    let mut number = 0;
     for byte in &image[usize::from(at / 8)..end.div_ceil(8)] {
-        whole = (whole << 8) | u32::from(*byte);
+        // Of this byte the bits from `from` on, as many as the run has.
+        let room = 8 - from % 8;
+        let take = room.min(end - from);
+        let shift = room - take;
+        number = (number << take) | piece_of(u32::from(*byte), shift, take);
+        from += take;
     }
-    (whole >> spare) & ones(width)
+    number
 }
 
 // Replaces the `width` bits from bit `at` on by those of `bits`.

@@ -1,9 +1,9 @@
 // The field of a node in an image. That it lies in the image is asked where it is used, since field and image are lent apart.
-ghost use Rattle.std.specs.Prelude.{◌≡◌, ℕ, ◌+◌, ◌*◌, ◌<◌, ◌≤◌, true, length};
+ghost use Rattle.std.specs.Prelude.{◌≡◌, ℕ, ◌+◌, ◌*◌, ◌^◌, ◌<◌, ◌≤◌, length};
 ghost use Rattle.plans.specs.Meaning.{nodes_of};
 ghost use Rattle.plans.specs.Nodes.{node_at, field_start};
-ghost use Rattle.image_model.specs.Image.{image_bit, number, signed, bits_of, with_field};
-ghost use Rattle.image_model.specs.Fields.{fits, plan_bits};
+ghost use Rattle.image_model.specs.Image.{image_bit, number, signed, with_field};
+ghost use Rattle.image_model.specs.Fields.{plan_bits};
 
 use crate::bits::{read_bits, write_bits};
 use crate::width::Width;
@@ -48,17 +48,12 @@ impl Field {
             .signed(read_bits(image, self.start, self.width.bits))
     }
 
-    // Puts v into the field, and changes no other bit.
-    pub(crate) fn write(self, image: &mut [u8], v: i32)
+    // Puts these bits into the field, and changes no other.
+    pub(crate) fn write(self, image: &mut [u8], bits: u32)
         requires inside { self.start + self.width.bits ≤ 8 * length image.old }
-        requires fit { fits self.width.bits v ≡ true }
-        ensures { (i : ℕ) → image_bit image.new i ≡ with_field (image_bit image.old) self.start self.width.bits (bits_of self.width.bits v) i }
+        requires small { bits < 2 ^ self.width.bits }
+        ensures { (i : ℕ) → image_bit image.new i ≡ with_field (image_bit image.old) self.start self.width.bits bits i }
     {
-        write_bits(
-            image,
-            self.start,
-            self.width.bits,
-            self.width.twos_complement(v),
-        );
+        write_bits(image, self.start, self.width.bits, bits);
     }
 }

@@ -52,7 +52,8 @@ pub fn pack(plan: &Plan, values: &[i32], image: &mut [u8]) -> Result<(), Refusal
 {
     check_pack(plan, values, image.len())?;
     for (n, &v) in (0..plan.count()).zip(values) {
-        Field::of(plan, NodeNumber(n)).write(image, v);
+        let field = Field::of(plan, NodeNumber(n));
+        field.write(image, field.width.twos_complement(v));
     }
     let end = plan.start(NodeNumber(plan.count()));
     let spare = spare_after(usize::from(end));

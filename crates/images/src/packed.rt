@@ -92,7 +92,7 @@ impl NodeStore for PackedStore<'_, '_> {
         if !field.width.fits(v) {
             return false;
         }
-        field.write(self.image, v);
+        field.write(self.image, field.width.twos_complement(v));
         true
     }
 }

@@ -1,14 +1,15 @@
 -- A text cut into its pieces, one after the other.
-use Rattle.std.proofs.Common.{◌≡◌, ℕ, suc, ◌+◌, ◌<◌, ◌≤◌, Bool, true, false, cond, not, eqb, List, [], ◌∷◌, length, take, drop, Some, None, Option, sym, refl, ap, ◌∙◌, inl, inr, arith}
+use Rattle.std.proofs.Common.{◌≡◌, ℕ, suc, ◌+◌, ◌<◌, ◌≤◌, Bool, true, false, cond, not, eqb, List, [], ◌∷◌, length, take, drop, Some, None, Option, sym, refl, ap, ◌∙◌, inl, inr, arith, length-drop}
 use Rattle.std.specs.List.{prefix_len, position}
-use Rattle.std.specs.Option.{is_some}
-use mathlib.Core.Path.{subst⁻¹}
+use Rattle.std.specs.Option.{is_some, unwrap_or}
+use mathlib.Core.Path.{subst⁻¹, ap₂}
 use Rattle.std.proofs.lemmas.Bool.{cases_lt, lt-ltb, le-ltb}
+use Rattle.std.proofs.lemmas.List.{take_all, length-take-le}
 use Rattle.runtext_model.specs.Accepting.{is_empty}
 use Rattle.runtext_model.specs.Pieces.{onto, pieces}
 use Rattle.runtext.specs.declared.piece.Piece.{Piece}
 use Rattle.runtext.specs.declared.piece.Rest.{Rest}
-use Rattle.runtext.specs.Left.{pieces_of, pieces_left, size, size_of}
+use Rattle.runtext.specs.Left.{pieces_of, pieces_left, size, size_of, BeginsAt, Skips}
 
 -- how many bytes stand before the first byte c
 abbrev piece_length : ℕ → List ℕ → ℕ
@@ -62,6 +63,24 @@ module _ (c : ℕ) where
             let q : o ≡ None = e ∙ ap (λ b. cond b (Some n) None) (le-ltb n (length xs) l) in
             subst⁻¹ (CutAt c xs) q ((cut_first xs).1 l)
       ]
+
+-- the first piece ends before the first space, or where the bytes end; from one byte further on stand the others, if any
+module _ (p : Piece) where
+  abbrev pub bytes_of : List ℕ
+  bytes_of = p.part.bytes.now
+
+  pub after_first : (o : Option ℕ) (n m : ℕ) (q : Option Piece) → CutAt 32 bytes_of o → n ≡ unwrap_or o (length bytes_of) → m ≡ n + 1
+      → Skips m p q → (pieces 32 bytes_of ≡ take n bytes_of ∷ pieces_of q) × (size_of q < size_of (Some p))
+      × BeginsAt (p.part.at + length (take n bytes_of) + 1) q
+  after_first None n m None cut e s few = (cut ∙ ap (λ ys. ys ∷ []) (sym (take_all n bytes_of (omega (arith, e)))), omega arith, tt)
+  after_first None n m (Some q) cut e s (within, bytes, at) = absurd (omega (arith, e, s, within))
+  after_first (Some i) n m None (inside, cut) e s few = absurd (omega (arith, e, s, inside, few))
+  after_first (Some i) n m (Some q) (inside, cut) e s (within, bytes, at) =
+      let next : i + 1 ≡ m = omega (arith, e, s) in (
+        cut ∙ ap₂ (λ j k. take j bytes_of ∷ pieces 32 (drop k bytes_of)) (sym e) next ∙ ap (λ ys. take n bytes_of ∷ pieces 32 ys) (sym bytes),
+        omega (arith, s, within, ap length bytes, length-drop m bytes_of),
+        omega (arith, s, at, length-take-le n bytes_of (omega (arith, s, within))),
+      )
 
 not_empty : (ps : List (List ℕ)) → (ps ≡ [] → ⊥) → is_empty ps ≡ false
 not_empty [] h = absurd (h refl)

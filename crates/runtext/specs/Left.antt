@@ -1,5 +1,5 @@
 -- What is left of a line, and pieces cut off.
-use Rattle.std.specs.Prelude.{◌≡◌, ℕ, ◌+◌, ◌<◌, List, [], ◌∷◌, length, Some, None, Option}
+use Rattle.std.specs.Prelude.{◌≡◌, ℕ, ◌+◌, ◌<◌, ◌≤◌, List, [], ◌∷◌, length, drop, Some, None, Option}
 use Rattle.runtext_model.specs.Pieces.{pieces}
 use Rattle.runtext.specs.declared.part.Part.{Part}
 use Rattle.runtext.specs.declared.piece.Piece.{Piece}
@@ -36,6 +36,11 @@ pub record Halves (c : ℕ) (p before after : Piece) : Type 0 where
 abbrev pub Cut : ℕ → Piece → Option (Piece × Piece) → Type 0
 Cut c p None = pieces c p.part.bytes.now ≡ p.part.bytes.now ∷ []
 Cut c p (Some (before, after)) = Halves c p before after
+
+-- a piece without its first n bytes, if it has so many
+abbrev pub Skips : ℕ → Piece → Option Piece → Type 0
+Skips n p None = length p.part.bytes.now < n
+Skips n p (Some after) = (n ≤ length p.part.bytes.now) × (after.part.bytes.now ≡ drop n p.part.bytes.now) × (after.part.at ≡ p.part.at + n)
 
 -- the first piece of what is left, and the rest after it
 pub record Cuts (r : Rest) (p : Part) (next : Rest) : Type 0 where

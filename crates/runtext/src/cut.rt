@@ -1,7 +1,7 @@
 // Cutting a text at a byte.
 ghost use Rattle.std.specs.Prelude.{◌≡◌, ◌==◌, position};
 ghost use Rattle.runtext_model.specs.Accepting.{is_empty, is_some};
-ghost use Rattle.runtext.specs.Left.{pieces_left, Cut, FirstPiece};
+ghost use Rattle.runtext.specs.Left.{pieces_left, Cut, FirstPiece, Skips};
 
 use crate::part::Part;
 use crate::piece::{Piece, Rest};
@@ -29,6 +29,19 @@ impl<'a> Piece<'a> {
         };
         Some((Piece { part: before }, Piece { part: after }))
     }
+
+    // What stands after the first n bytes, if there are so many.
+    fn skip(self, n: usize) -> Option<Piece<'a>>
+        ensures { Skips n self.entry result }
+    {
+        let Part { bytes, at } = self.part;
+        Some(Piece {
+            part: Part {
+                bytes: bytes.get(n..)?,
+                at: at + n,
+            },
+        })
+    }
 }
 
 impl<'a> Rest<'a> {
@@ -44,9 +57,12 @@ impl<'a> Rest<'a> {
         ensures { FirstPiece self.entry result }
     {
         let piece = self.0?;
-        match piece.split_once(b' ') {
-            Some((first, next)) => Some((first.part, Rest(Some(next)))),
-            None => Some((piece.part, Rest(None))),
-        }
+        let Part { bytes, at } = piece.part;
+        let end = place_of(bytes, b' ').unwrap_or(bytes.len());
+        let first = Part {
+            bytes: &bytes[..end],
+            at,
+        };
+        Some((first, Rest(piece.skip(end + 1))))
     }
 }

@@ -9,6 +9,7 @@ use Rattle.plans.specs.Nodes.{node_at, field_start}
 use Rattle.image_model.specs.Image.{image_bit, with_field, bits_of}
 use Rattle.image_model.specs.Fields.{fits, all_fit, packed, packed_bit, plan_bits, plan_bytes, pack_refusal}
 use Rattle.image_model.specs.ImageLaws.{plan_wide}
+use Rattle.image_model.proofs.Complement.{bits_small}
 use Rattle.image_model.proofs.Packing.{Long, not_refused, may_pack, fit_at, pack_step, pack_end, image_is, unpack_packed}
 use Rattle.images.proofs.Numbered.{Turn, numbered_turn, numbered_end}
 use Rattle.images.proofs.pack.pack.Goals as goal
@@ -21,8 +22,8 @@ turn c = numbered_turn c.count.result c.args.values.now c.into_iter-n-iterator.r
     (ap (λ z. iter_rest (zip_second z)) c.into_iter-n-iterator.ensures.into_iter_gives ∙ c.zip-n-items.ensures.second.0)
     c.loop-n.yielded c.loop-n.n-iterator c.next.new.self c.next.result c.loop-n.yielded_by (c.in-Some.n, c.in-Some.field-0-1) c.in-Some.is c.next.ensures.steps
 
-pub of-requires : goal.of-requires
-of-requires c = let now = turn (goal.at.of-requires c).In-Some in omega (arith, now.below, now.number, c.count.ensures)
+pub of-field-requires : goal.of-field-requires
+of-field-requires c = let now = turn (goal.at.of-field-requires c).In-Some in omega (arith, now.below, now.number, c.count.ensures)
 
 -- nothing was refused, so the buffers are long enough and the values fit
 allowed : (c : In-Some) → Long (nodes_of c.args.plan.now) (length c.args.values.now) (length c.args.image.now) × (all_fit (nodes_of c.args.plan.now) c.args.values.now ≡ true)
@@ -31,21 +32,28 @@ allowed c = may_pack (nodes_of c.args.plan.now) c.args.values.now (length c.args
 pub write-requires-clause-inside : goal.write-requires-clause-inside
 write-requires-clause-inside c =
     let (long, _) = allowed (goal.at.write-requires-clause-inside c).In-Some in
-    omega (arith, c.of.ensures.inside, long.image_long, c.loop-n.auto.image)
+    omega (arith, c.of-field.ensures.inside, long.image_long, c.loop-n.auto.image)
 
-pub write-requires-clause-fit : goal.write-requires-clause-fit
-write-requires-clause-fit c =
+-- so the value of this turn fits its field, of w bits
+fits_field : (c : In-Some) (w : ℕ) → SFits w32 c.in-Some.field-0-1.now → w ≡ (node_at (nodes_of c.args.plan.now) c.in-Some.n).width → fits w (to_z w32 (of_z w32 c.in-Some.field-0-1.now)) ≡ true
+fits_field c w small wide =
     let nodes = nodes_of c.args.plan.now in
     let vs = c.args.values.now in
     let k = length c.loop-n.yielded in
-    let now = turn (goal.at.write-requires-clause-fit c).In-Some in
-    let (long, fit) = allowed (goal.at.write-requires-clause-fit c).In-Some in
-    let small : SFits w32 c.in-Some.field-0-1.now = search rules in
+    let now = turn c in
+    let (long, fit) = allowed c in
     let below : k < length nodes = omega (arith, now.below, c.count.ensures) in
-    let width : c.of.result.width.bits ≡ (node_at nodes k).width = c.of.ensures.width ∙ ap (λ n. (node_at nodes n).width) now.number in
-    ap (λ w. fits w (to_z w32 (of_z w32 c.in-Some.field-0-1.now))) width
+    ap (λ m. fits m (to_z w32 (of_z w32 c.in-Some.field-0-1.now))) (wide ∙ ap (λ n. (node_at nodes n).width) now.number)
     ∙ ap (fits (node_at nodes k).width) (to_z-of_z w32 c.in-Some.field-0-1.now small ∙ now.value)
     ∙ fit_at nodes vs k fit below now.within
+
+pub twos_complement-requires : goal.twos_complement-requires
+twos_complement-requires c = fits_field (goal.at.twos_complement-requires c).In-Some _ (search rules) c.of-field.ensures.width
+
+pub write-requires-clause-small : goal.write-requires-clause-small
+write-requires-clause-small c =
+    let w = c.of-field.result.width in
+    omega (arith, c.twos_complement.ensures, bits_small w.bits (to_z w32 (of_z w32 c.in-Some.field-0-1.now)) w.wide (fits_field (goal.at.write-requires-clause-small c).In-Some w.bits (search rules) c.of-field.ensures.width))
 
 pub loop-n-preserved : goal.loop-n-preserved
 loop-n-preserved c =
@@ -58,18 +66,19 @@ loop-n-preserved c =
     let now = turn (goal.at.loop-n-preserved c).In-Some in
     let small : SFits w32 c.in-Some.field-0-1.now = search rules in
     let below : k < length nodes = omega (arith, now.below, c.count.ensures) in
-    let start : c.of.result.start ≡ field_start nodes k = c.of.ensures.start ∙ ap (field_start nodes) now.number in
-    let width : c.of.result.width.bits ≡ w = c.of.ensures.width ∙ ap (λ n. (node_at nodes n).width) now.number in
+    let start : c.of-field.result.start ≡ field_start nodes k = c.of-field.ensures.start ∙ ap (field_start nodes) now.number in
+    let width : c.of-field.result.width.bits ≡ w = c.of-field.ensures.width ∙ ap (λ n. (node_at nodes n).width) now.number in
     let value : to_z w32 (of_z w32 c.in-Some.field-0-1.now) ≡ v = to_z-of_z w32 c.in-Some.field-0-1.now small ∙ now.value in
+    let bits : c.twos_complement.result ≡ bits_of w v = c.twos_complement.ensures ∙ ap (λ m. bits_of m (to_z w32 (of_z w32 c.in-Some.field-0-1.now))) width ∙ ap (bits_of w) value in
     record {
       can_next = (tt, tt);
       is_finite = tt;
       packed = λ i.
           pack_step nodes vs row (image_bit c.write.new.image) (image_bit c.args.image.now) k (bits_of w v) below now.within refl c.loop-n.invariant.packed (λ j.
           c.write.ensures j
-          ∙ ap (λ a. with_field row a c.of.result.width.bits (bits_of c.of.result.width.bits (to_z w32 (of_z w32 c.in-Some.field-0-1.now))) j) start
-          ∙ ap (λ m. with_field row (field_start nodes k) m (bits_of m (to_z w32 (of_z w32 c.in-Some.field-0-1.now))) j) width
-          ∙ ap (λ z. with_field row (field_start nodes k) w (bits_of w z) j) value) i
+          ∙ ap (λ a. with_field row a c.of-field.result.width.bits c.twos_complement.result j) start
+          ∙ ap (λ m. with_field row (field_start nodes k) m c.twos_complement.result j) width
+          ∙ ap (λ u. with_field row (field_start nodes k) w u j) bits) i
           ∙ ap (λ m. cond (ltb i (field_start nodes m)) (packed_bit nodes vs i) (image_bit c.args.image.now i)) (sym (length_push c.loop-n.yielded (c.in-Some.n, c.in-Some.field-0-1)));
     }
 
