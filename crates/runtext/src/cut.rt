@@ -58,6 +58,7 @@ impl<'a> Rest<'a> {
     {
         let piece = self.0?;
         let Part { bytes, at } = piece.part;
+        // With no space left the piece ends with the line, and nothing is left after it.
         let end = place_of(bytes, b' ').unwrap_or(bytes.len());
         let first = Part {
             bytes: &bytes[..end],

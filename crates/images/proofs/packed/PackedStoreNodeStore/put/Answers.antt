@@ -16,6 +16,7 @@ write-requires-clause-small c =
     let w = c.in-Some.field.width in
     omega (arith, c.twos_complement.ensures, bits_small w.bits (to_z w32 (of_z w32 c.args.v)) w.wide (sym c.if-not-fits.ensures))
 
+-- here and below: the bits that are written go by the number alone, in whatever form they are made
 pub returns-clause-leaves : goal.returns-clause-leaves
 returns-clause-leaves c =
     let s = c.args.self.now in
