@@ -23,11 +23,8 @@ impl<'a> Piece<'a> {
             bytes: &bytes[..end],
             at,
         };
-        let after = Part {
-            bytes: &bytes[end + 1..],
-            at: at + end + 1,
-        };
-        Some((Piece { part: before }, Piece { part: after }))
+        let after = self.skip(end + 1)?;
+        Some((Piece { part: before }, after))
     }
 
     // What stands after the first n bytes, if there are so many.
